@@ -1,0 +1,9 @@
+-- A chain of refusals, taken apart from its answer. Assumes nothing.
+use mathlib.Core.Path.{_≡_, refl}
+use mathlib.Core.Bool.{Bool, true, false}
+use Rattle.fields.specs.Choice.{_when_otherwise_}
+
+-- an answer that is not the first one comes from what follows, and the test did not hold
+pub past : {A : Type 0} (a b x : A) (t : Bool) → (a ≡ x → ⊥) → (a when t otherwise b) ≡ x → (t ≡ false) × (b ≡ x)
+past a b x true h e = absurd (h e)
+past a b x false h e = (refl, e)

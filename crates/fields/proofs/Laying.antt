@@ -1,0 +1,51 @@
+-- Runs laid into lent memory, one behind the other. Assumes nothing.
+use Prim.Native.Nat.{ℕ, suc, _+_, _/_, _%_, _<_, _≤_}
+use native.Mathlib.Nat.{zero-add, add-zero, lt-suc-self, add-assoc}
+use mathlib.Core.Path.{_≡_, ap, sym, _∙_}
+use mathlib.Core.List.{List, [], _∷_, _++_, append-assoc, append-nil}
+use lib.ListN.{length, take, drop, set, length-append, take-append-drop}
+use lib.Seq.{append-snoc, take-at, drop-append-add, drop-drop, take-take, drop-cons, getD-set-same, drop-set-lt, lt-length-set, length-take-le}
+use Rattle.fields.specs.Numbers.{octets}
+use Rattle.fields.specs.Runs.{laid, front}
+
+pub laid-none : (old : List ℕ) (at : ℕ) → laid old at [] ≡ old
+unfolding laid
+laid-none old at = rw (add-zero, append-nil) (take-append-drop at old)
+
+pub laid-first : (old xs : List ℕ) → laid old 0 xs ≡ front old xs
+unfolding laid front
+laid-first old xs = rw zero-add
+
+-- behind what already stands in front
+pub laid-next : (old xs ys : List ℕ) (n : ℕ) → length xs ≡ n → laid (front old xs) n ys ≡ front old (xs ++ ys)
+unfolding laid front
+laid-next old xs ys n e =
+    let t : take n (xs ++ drop (length xs) old) ≡ xs = take-at xs (drop (length xs) old) n e in
+    let d : drop (length xs + length ys) (xs ++ drop (length xs) old) ≡ drop (length xs + length ys) old = drop-append-add xs (drop (length xs) old) (length ys) ∙ drop-drop (length ys) (length xs) old in
+    rw (t, ← e, d, length-append)
+
+-- a run in two parts
+pub laid-split : (old xs ys : List ℕ) (at : ℕ) → at ≤ length old → laid old at (xs ++ ys) ≡ laid (laid old at xs) (at + length xs) ys
+unfolding laid
+laid-split old xs ys at h =
+    let l : length (take at old ++ xs) ≡ at + length xs = length-append (take at old) xs ∙ rw (length-take-le at old h) in
+    let t : take (at + length xs) (take at old ++ xs ++ drop (at + length xs) old) ≡ take at old ++ xs = take-at (take at old ++ xs) (drop (at + length xs) old) (at + length xs) l in
+    let d : drop (at + length xs + length ys) (take at old ++ xs ++ drop (at + length xs) old) ≡ drop (at + length xs + length ys) old = rw (← l) (drop-append-add (take at old ++ xs) (drop (length (take at old ++ xs)) old) (length ys) ∙ drop-drop (length ys) (length (take at old ++ xs)) old) in
+    rw (t, d, length-append, ← (append-assoc (take at old) xs ys), add-assoc)
+
+-- what stands in front
+pub take-front : (old xs : List ℕ) (n : ℕ) → length xs ≡ n → take n (front old xs) ≡ xs
+unfolding front
+take-front old xs n e = take-at xs (drop (length xs) old) n e
+
+-- a front that was not written to stays, also where less of it is looked at
+pub take-less : (s t : List ℕ) (m n : ℕ) → m ≤ n → take n s ≡ take n t → take m s ≡ take m t
+take-less s t m n h e = sym (take-take m n s h) ∙ ap (take m) e ∙ take-take m n t h
+
+-- an octet of a number, stored below those that stand already
+pub octet-below : (s : List ℕ) (i w v : ℕ) → i < length s → octets w (v / 256) ++ drop i (set s i (v % 256)) ≡ octets (suc w) v ++ drop (suc i) s
+unfolding octets
+octet-below s i w v h =
+    let b = v % 256 in
+    let e : drop i (set s i b) ≡ b ∷ drop (suc i) s = drop-cons (set s i b) i 0 (lt-length-set s i b h) ∙ rw (getD-set-same s i b 0 h, drop-set-lt (suc i) s i b (lt-suc-self i)) in
+    rw e (sym (append-snoc (octets w (v / 256)) b (drop (suc i) s)))

@@ -1,0 +1,3 @@
+pub mod Choosing
+pub mod Laying
+pub mod ReadAgain

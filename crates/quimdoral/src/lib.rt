@@ -1,0 +1,18 @@
+// The library as C and Rust link it: functions on numbers and slices, each a call of the proved function of its layer and with
+// the same promise. A slice is passed as a pointer and a length.
+ghost use mathlib.Core.Path.{_≡_};
+ghost use Rattle.checks.specs.Check.{headerCheck, payloadCheck};
+
+#[no_mangle]
+pub extern "C" fn quimdoral_header_check(octets: &[u8]) -> u8
+    ensures { λ r. ⌜ r ≡ headerCheck (now (octets .entry)) ⌝ }
+{
+    checks::header_check(octets)
+}
+
+#[no_mangle]
+pub extern "C" fn quimdoral_payload_check(octets: &[u8]) -> u16
+    ensures { λ r. ⌜ r ≡ payloadCheck (now (octets .entry)) ⌝ }
+{
+    checks::payload_check(octets)
+}
