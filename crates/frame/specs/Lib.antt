@@ -1,0 +1,6 @@
+pub mod Counts
+pub mod Layout
+pub mod Listing
+pub mod Paper
+pub mod Reading
+pub mod Writing

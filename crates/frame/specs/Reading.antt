@@ -1,0 +1,75 @@
+-- What reading a frame gives: the refusals in document 01's order ("Reading: empty 1; 2; 3; too short 1; 4; 5; 6; 7; 8"), and
+-- otherwise what the frame says. Assumes nothing.
+use Prim.Native.Nat.{ℕ, zero, suc, _+_}
+use mathlib.Core.List.{List}
+use mathlib.Core.Bool.{Bool, false, not, _||_}
+use lib.ListN.{length, take}
+use lib.Dec.{ltb, eqb}
+use Rattle.units.specs.Limits.{mostPayload, lastStamp}
+use Rattle.units.specs.Refusals.{refusing, tooShort, typeTwo, typeUnknown, headerCheckWrong, stampTooHigh, sizeWrong, payloadCheckWrong, countsImpossible}
+use Rattle.fields.specs.Choice.{_when_otherwise_}
+use Rattle.checks.specs.Check.{headerCheck, payloadCheck}
+use Rattle.frame.specs.declared.Read.{Read}
+use Rattle.frame.specs.declared.Read.the-variants.{Closing, Data, ClosingWithLengths, Refused}
+use Rattle.frame.specs.Layout.{typeOf, stampOf, numberOf, elapsedOf, control, least, headerCheckIn, payloadCheckIn, payloadPart, payloadLength, filled, dataOf, closingOf}
+use Rattle.frame.specs.Counts.{dataWrong, closingWrong, lengthsWrong}
+
+-- the refusal with a number
+abbrev pub refuse : ℕ → Read
+refuse n = Refused (refusing n)
+
+-- "The header check covers the control part", of n octets
+abbrev pub headerWrong : ℕ → List ℕ → Bool
+headerWrong n s = not (eqb (headerCheck (take n s)) (headerCheckIn n s))
+
+-- "the payload check the whole payload part with padding and extension"
+abbrev pub payloadWrong : ℕ → List ℕ → Bool
+payloadWrong n s = not (eqb (payloadCheck (payloadPart n s)) (payloadCheckIn n s))
+
+-- refusal 6: "Type 0 not 18 octets; Type 1 payload above 4,095; Type 3 not 19+W to 19+W+4"
+abbrev pub lengthWrong : ℕ → List ℕ → Bool
+lengthWrong zero s = not (eqb (length s) 18)
+lengthWrong (suc zero) s = ltb mostPayload (payloadLength s)
+lengthWrong (suc (suc t)) s = ltb (length s) (19 + filled (numberOf s)) || ltb (19 + filled (numberOf s) + 4) (length s)
+
+-- refusal 7: Type 0 has no payload check
+abbrev pub checkWrong : ℕ → List ℕ → Bool
+checkWrong zero s = false
+checkWrong (suc zero) s = payloadWrong 9 s
+checkWrong (suc (suc t)) s = payloadWrong 17 s
+
+-- refusal 8: the counts of each type
+abbrev pub countsWrong : ℕ → List ℕ → Bool
+countsWrong zero s = closingWrong (closingOf s)
+countsWrong (suc zero) s = dataWrong (numberOf s) (elapsedOf s)
+countsWrong (suc (suc t)) s = lengthsWrong s (closingOf s)
+
+-- what a frame of each type says
+abbrev pub said : ℕ → List ℕ → Read
+said zero s = Closing (closingOf s)
+said (suc zero) s = Data (dataOf s)
+said (suc (suc t)) s = ClosingWithLengths (closingOf s)
+
+-- a frame of type t whose header check and stamp are right
+unfoldable pub readBody : ℕ → List ℕ → Read
+readBody t s =
+    refuse sizeWrong when lengthWrong t s otherwise
+    refuse payloadCheckWrong when checkWrong t s otherwise
+    refuse countsImpossible when countsWrong t s otherwise
+    said t s
+
+-- a frame of type t that has its least size
+unfoldable pub readHeaded : ℕ → List ℕ → Read
+readHeaded t s =
+    refuse headerCheckWrong when headerWrong (control t) s otherwise
+    refuse stampTooHigh when ltb lastStamp (stampOf s) otherwise
+    readBody t s
+
+-- any octets
+unfoldable pub readFrame : List ℕ → Read
+readFrame s =
+    refuse tooShort when eqb (length s) 0 otherwise
+    refuse typeTwo when eqb (typeOf s) 2 otherwise
+    refuse typeUnknown when ltb 3 (typeOf s) otherwise
+    refuse tooShort when ltb (length s) (least (typeOf s)) otherwise
+    readHeaded (typeOf s) s
