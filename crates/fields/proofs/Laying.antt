@@ -1,10 +1,11 @@
 -- Runs laid into lent memory, one behind the other. Assumes nothing.
-use Prim.Native.Nat.{ℕ, suc, _+_, _/_, _%_, _<_, _≤_}
+use Prim.Native.Nat.{ℕ, suc, _+_, _-_, _/_, _%_, _<_, _≤_}
 use native.Mathlib.Nat.{zero-add, add-zero, lt-suc-self, add-assoc}
+use native.Mathlib.Omega.{arith}
 use mathlib.Core.Path.{_≡_, ap, sym, _∙_}
 use mathlib.Core.List.{List, [], _∷_, _++_, append-assoc, append-nil}
-use lib.ListN.{length, take, drop, set, length-append, take-append-drop}
-use lib.Seq.{append-snoc, take-at, drop-append-add, drop-drop, take-take, drop-cons, getD-set-same, drop-set-lt, lt-length-set, length-take-le}
+use lib.ListN.{length, take, drop, set, length-append, take-append-drop, length-drop}
+use lib.Seq.{append-snoc, take-at, drop-append-add, drop-drop, take-take, drop-cons, getD-set-same, drop-set-lt, lt-length-set, length-take-le, take-all}
 use Rattle.fields.specs.Numbers.{octets}
 use Rattle.fields.specs.Runs.{laid, front}
 
@@ -49,3 +50,7 @@ octet-below s i w v h =
     let b = v % 256 in
     let e : drop i (set s i b) ≡ b ∷ drop (suc i) s = drop-cons (set s i b) i 0 (lt-length-set s i b h) ∙ rw (getD-set-same s i b 0 h, drop-set-lt (suc i) s i b (lt-suc-self i)) in
     rw e (sym (append-snoc (octets w (v / 256)) b (drop (suc i) s)))
+
+-- a part to the end
+pub to-end : (n : ℕ) (s : List ℕ) → take (length s - n) (drop n s) ≡ drop n s
+to-end n s = take-all (length s - n) (drop n s) (simp length-drop (omega arith))

@@ -1,0 +1,82 @@
+-- `reader::read_data` meets its contract. Assumes nothing.
+use mathlib.Core.Path.{_≡_, ap}
+use mathlib.Core.Bool.{true, false}
+use Prim.Native.Nat.{_-_, _<_, _≤_}
+use lib.ListN.{length}
+use borrow.Author.Tests.{lt-ltb, le-ltb}
+use denote.Ref.{now}
+use Rattle.fields.proofs.Laying.{to-end}
+use Rattle.frame.specs.declared.DataPdu.{DataPdu}
+use Rattle.frame.specs.Layout.{numberOf, elapsedOf}
+use Rattle.frame.specs.Counts.{dataWrong}
+use Rattle.frame.specs.Reading.{readBody, payloadWrong}
+use native.Mathlib.Omega.{arith}
+use borrow.Author.Needs.{needs}
+use Rattle.reader.proofs.read_data.Statement.{statement}
+use Rattle.reader.proofs.read_data.Tie as tie
+
+sub-payload : tie.Need-sub-payload
+sub-payload c = search needs
+
+part-payload-start : tie.Need-part-payload-start
+part-payload-start c = search needs
+
+part-payload-end : tie.Need-part-payload-end
+part-payload-end c = search needs
+
+returns : tie.Need-returns
+unfolding readBody
+returns c =
+    let s = now (c .before .before .before .args .frame) in
+    let h : 4095 < length s - 11 = omega arith in
+    simp (lt-ltb _ _ h)
+
+payload-wrong-requires : tie.Need-payload-wrong-requires
+payload-wrong-requires c κs = (omega arith, to-end 11 (now (c .before .before .before .args .frame)))
+
+returns-2 : tie.Need-returns-2
+unfolding readBody
+returns-2 c =
+    let s = now (c .before .before .before .before .before .args .frame) in
+    let h : length s - 11 ≤ 4095 = omega arith in
+    let p : payloadWrong 9 s ≡ true = cc in
+    simp (le-ltb _ _ h, p)
+
+data-of-requires : tie.Need-data-of-requires
+data-of-requires c κs = search needs
+
+data-wrong-requires : tie.Need-data-wrong-requires
+data-wrong-requires c κs = search needs
+
+returns-3 : tie.Need-returns-3
+unfolding readBody
+returns-3 c =
+    let s = now (c .before .before .before .before .before .before .before .before .args .frame) in
+    let h : length s - 11 ≤ 4095 = omega arith in
+    let p : payloadWrong 9 s ≡ false = cc in
+    let w : dataWrong (numberOf s) (elapsedOf s) ≡ true = cc (ap (λ (x : DataPdu). dataWrong (x .number .0) (x .elapsed .0)) (c .before .before .data-of .ensures)) in
+    simp (le-ltb _ _ h, p, w)
+
+returns-4 : tie.Need-returns-4
+unfolding readBody
+returns-4 c =
+    let s = now (c .before .before .before .before .before .before .before .before .args .frame) in
+    let h : length s - 11 ≤ 4095 = omega arith in
+    let p : payloadWrong 9 s ≡ false = cc in
+    let w : dataWrong (numberOf s) (elapsedOf s) ≡ false = cc (ap (λ (x : DataPdu). dataWrong (x .number .0) (x .elapsed .0)) (c .before .before .data-of .ensures)) in
+    simp (le-ltb _ _ h, p, w, c .before .before .data-of .ensures)
+
+pub read-data-spec : {M : Type 1} → statement M
+read-data-spec =
+    tie.close
+    (tie.spec
+    sub-payload
+    part-payload-start
+    part-payload-end
+    returns
+    payload-wrong-requires
+    returns-2
+    data-of-requires
+    data-wrong-requires
+    returns-3
+    returns-4)

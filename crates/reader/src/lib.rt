@@ -1,0 +1,150 @@
+// SYNC frames read, from any octets: what a frame says, or the first refusal that applies. Each stage of the order of refusals is
+// a function, proved against the same stage of the definition.
+mod lengths;
+mod parts;
+
+use frame::Read;
+pub use lengths::read_lengths;
+use parts::closing_of;
+use parts::control_of;
+use parts::data_of;
+use parts::header_wrong;
+use parts::least_of;
+use parts::payload_wrong;
+use units::Refusal;
+use units::limits::LAST_STAMP;
+use units::limits::MOST_PAYLOAD;
+use units::refusals::COUNTS_IMPOSSIBLE;
+use units::refusals::HEADER_CHECK_WRONG;
+use units::refusals::PAYLOAD_CHECK_WRONG;
+use units::refusals::SIZE_WRONG;
+use units::refusals::STAMP_TOO_HIGH;
+use units::refusals::TOO_SHORT;
+use units::refusals::TYPE_TWO;
+use units::refusals::TYPE_UNKNOWN;
+ghost use mathlib.Core.Path.{_≡_};
+ghost use Prim.Native.Nat.{_≤_};
+ghost use lib.ListN.{length};
+ghost use Rattle.frame.specs.Layout.{least};
+ghost use Rattle.frame.specs.Paper.{readPaper};
+ghost use Rattle.frame.specs.Reading.{readBody, readHeaded, readFrame};
+
+// Type 0.
+fn read_closing(frame: &[u8]) -> Read
+    requires { ⌜ 18 ≤ length (now frame) ⌝ }
+    ensures { λ r. ⌜ r ≡ readBody 0 (now (frame .entry)) ⌝ }
+{
+    if frame.len() != 18 {
+        return Read::Refused(Refusal { number: SIZE_WRONG });
+    }
+    let c = closing_of(frame);
+    if counts::closing_wrong(c) {
+        return Read::Refused(Refusal {
+            number: COUNTS_IMPOSSIBLE,
+        });
+    }
+    Read::Closing(c)
+}
+
+// Type 1. The payload is the part from the twelfth octet to the end.
+fn read_data(frame: &[u8]) -> Read
+    requires { ⌜ 11 ≤ length (now frame) ⌝ }
+    ensures { λ r. ⌜ r ≡ readBody 1 (now (frame .entry)) ⌝ }
+{
+    let payload = &frame[11..];
+    if MOST_PAYLOAD < payload.len() as u64 {
+        return Read::Refused(Refusal { number: SIZE_WRONG });
+    }
+    if payload_wrong(frame, 9, payload) {
+        return Read::Refused(Refusal {
+            number: PAYLOAD_CHECK_WRONG,
+        });
+    }
+    let d = data_of(frame);
+    if counts::data_wrong(d.number, d.elapsed) {
+        return Read::Refused(Refusal {
+            number: COUNTS_IMPOSSIBLE,
+        });
+    }
+    Read::Data(d)
+}
+
+// Type 3. Up to four octets of extension may follow the lengths.
+fn read_with_lengths(frame: &[u8]) -> Read
+    requires { ⌜ 19 ≤ length (now frame) ⌝ }
+    ensures { λ r. ⌜ r ≡ readBody 3 (now (frame .entry)) ⌝ }
+{
+    let c = closing_of(frame);
+    let w = (3 * (c.number.0 as usize) + 1) / 2;
+    if frame.len() < 19 + w {
+        return Read::Refused(Refusal { number: SIZE_WRONG });
+    }
+    if 19 + w + 4 < frame.len() {
+        return Read::Refused(Refusal { number: SIZE_WRONG });
+    }
+    if payload_wrong(frame, 17, &frame[19..]) {
+        return Read::Refused(Refusal {
+            number: PAYLOAD_CHECK_WRONG,
+        });
+    }
+    if lengths::lengths_wrong(frame, c) {
+        return Read::Refused(Refusal {
+            number: COUNTS_IMPOSSIBLE,
+        });
+    }
+    Read::ClosingWithLengths(c)
+}
+
+// A frame of a type, whose header check and stamp are right.
+fn read_body(frame: &[u8], kind: u8) -> Read
+    requires { ⌜ least kind ≤ length (now frame) ⌝ }
+    ensures { λ r. ⌜ r ≡ readBody kind (now (frame .entry)) ⌝ }
+{
+    if kind == 0 {
+        return read_closing(frame);
+    }
+    if kind == 1 {
+        return read_data(frame);
+    }
+    read_with_lengths(frame)
+}
+
+// A frame of a type, and long enough for it.
+fn read_headed(frame: &[u8], kind: u8) -> Read
+    requires { ⌜ least kind ≤ length (now frame) ⌝ }
+    ensures { λ r. ⌜ r ≡ readHeaded kind (now (frame .entry)) ⌝ }
+{
+    if header_wrong(frame, control_of(kind)) {
+        return Read::Refused(Refusal {
+            number: HEADER_CHECK_WRONG,
+        });
+    }
+    if LAST_STAMP < fields::field(frame, 1, 2) {
+        return Read::Refused(Refusal {
+            number: STAMP_TOO_HIGH,
+        });
+    }
+    read_body(frame, kind)
+}
+
+// What a frame says, or the first refusal that applies.
+pub fn read_frame(frame: &[u8]) -> Read
+    ensures { λ r. ⌜ readPaper r ≡ readPaper (readFrame (now (frame .entry))) ⌝ }
+{
+    if frame.len() == 0 {
+        return Read::Refused(Refusal { number: TOO_SHORT });
+    }
+    let kind = frame[0] >> 4;
+    if kind == 2 {
+        return Read::Refused(Refusal { number: TYPE_TWO });
+    }
+    if 3 < kind {
+        return Read::Refused(Refusal {
+            number: TYPE_UNKNOWN,
+        });
+    }
+    if frame.len() < least_of(kind) {
+        return Read::Refused(Refusal { number: TOO_SHORT });
+    }
+    read_headed(frame, kind)
+}
