@@ -1,3 +1,10 @@
 pub mod Accepted
+pub mod BenchExamples
+pub mod Fitting
+pub mod LengthsBack
+pub mod NotJudged
 pub mod OnePaper
+pub mod OrderOfRefusals
+pub mod ReadBack
 pub mod Said
+pub mod WrittenAgain
