@@ -22,10 +22,9 @@ pub fn header_end(x: u64) -> u8
     ensures { λ r. ⌜ r ≡ feed 0x6F 6 6 (leaves 0x6F 6 x) 0 ⌝ }
 {
     let a = reduce(x, 31, Powers(0, 0, 0));
-    let b = reduce(a, 22, Powers(4, 2, 0));
+    let b = reduce(a << 6, 22, Powers(4, 2, 0));
     let c = reduce(b, 11, Powers(2, 1, 0));
-    let d = reduce(c << 6, 11, Powers(2, 1, 0));
-    header_rest(reduce(d, 8, Powers(3, 2, 0)))
+    header_rest(reduce(c, 8, Powers(3, 2, 0)))
 }
 
 // The remainder of 19 digits. q is the quotient of the upper nine: the generator is D + 1 times D^9 + D^4 + 1, so it is the

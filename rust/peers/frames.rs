@@ -1,0 +1,108 @@
+//! Reading a frame as a plain Rust program would: document 01's layouts and order, with table-driven checks.
+#![allow(dead_code)]
+
+use crate::peers::{HeaderTable, Tables};
+use quimdoral::{Closing, Data, Frame};
+
+pub struct Reader {
+    header: HeaderTable,
+    payload: Tables,
+}
+
+fn number(octets: &[u8]) -> u64 {
+    octets.iter().fold(0, |sum, &octet| sum << 8 | u64::from(octet))
+}
+
+/// The i-th length of 12 bits in a Type 3 frame.
+pub fn length_at(frame: &[u8], i: usize) -> u64 {
+    let at = 19 + i / 2 * 3;
+    let three = number(&[frame[at], frame[at + 1], frame.get(at + 2).copied().unwrap_or(0)]);
+    if i % 2 == 0 { three >> 12 } else { three & 0xFFF }
+}
+
+impl Reader {
+    pub fn new() -> Reader {
+        Reader { header: HeaderTable::new(), payload: Tables::new() }
+    }
+
+    pub fn control(kind: u8) -> usize {
+        if kind == 1 { 9 } else { 17 }
+    }
+
+    /// Writes the right checks into a frame, over whatever stands there.
+    pub fn seal(&self, frame: &mut [u8]) {
+        let kind = frame[0] >> 4;
+        let n = Reader::control(kind);
+        let header = self.header.by_octets(&frame[..n]);
+        if kind == 0 {
+            frame[n] = header << 2 | frame[n] & 3;
+        } else {
+            let payload = self.payload.by_slices::<16>(&frame[n + 2..]);
+            frame[n] = header << 2 | (payload >> 8) as u8;
+            frame[n + 1] = payload as u8;
+        }
+    }
+
+    pub fn read(&self, frame: &[u8]) -> Result<Frame, u8> {
+        let Some(&first) = frame.first() else { return Err(1) };
+        let kind = first >> 4;
+        let least = match kind {
+            0 => 18,
+            1 => 11,
+            2 => return Err(2),
+            3 => 19,
+            _ => return Err(3),
+        };
+        if frame.len() < least {
+            return Err(1);
+        }
+        let n = Reader::control(kind);
+        if self.header.by_octets(&frame[..n]) != frame[n] >> 2 {
+            return Err(4);
+        }
+        let stamp = number(&frame[1..3]);
+        if stamp > 59_999 {
+            return Err(5);
+        }
+        let (packet, elapsed) = (number(&frame[3..5]), number(&frame[5..9]));
+        let filled = (3 * packet as usize + 1) / 2;
+        let size_right = match kind {
+            0 => frame.len() == 18,
+            1 => frame.len() - 11 <= 4_095,
+            _ => (19 + filled..=19 + filled + 4).contains(&frame.len()),
+        };
+        if !size_right {
+            return Err(6);
+        }
+        if kind != 0 && u64::from(self.payload.by_slices::<16>(&frame[n + 2..])) != number(&frame[n..n + 2]) & 0x3FF {
+            return Err(7);
+        }
+        if elapsed > 4_095 * packet {
+            return Err(8);
+        }
+        if kind == 1 {
+            if packet == 65_535 {
+                return Err(8);
+            }
+            return Ok(Frame::Data(Data { stamp: stamp as u32, number: packet as u32, elapsed, length: (frame.len() - 11) as u32 }));
+        }
+        let (packets, octets) = (number(&frame[9..12]), number(&frame[12..17]));
+        if packets < packet || octets < elapsed || octets - elapsed > 4_095 * (packets - packet) {
+            return Err(8);
+        }
+        let closing = Closing {
+            stamp: stamp as u32,
+            number: packet as u32,
+            elapsed,
+            total_packets: packets as u32,
+            total_octets: octets,
+        };
+        if kind == 0 {
+            return Ok(Frame::Closing(closing));
+        }
+        if (0..packet as usize).map(|i| length_at(frame, i)).sum::<u64>() != elapsed {
+            return Err(8);
+        }
+        Ok(Frame::ClosingWithLengths(closing))
+    }
+}

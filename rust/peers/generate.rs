@@ -1,0 +1,93 @@
+//! Frames of every kind, good and damaged, the same in every run.
+#![allow(dead_code)]
+
+use crate::frames::Reader;
+use crate::peers::Noise;
+
+fn put(frame: &mut [u8], at: usize, width: usize, value: u64) {
+    frame[at..at + width].copy_from_slice(&value.to_be_bytes()[8 - width..]);
+}
+
+/// A number that is often at or next to a limit.
+fn near(noise: &mut Noise, limits: &[u64]) -> u64 {
+    let limit = limits[noise.next() as usize % limits.len()];
+    match noise.next() % 4 {
+        0 => limit,
+        1 => limit.saturating_sub(1),
+        2 => limit + 1,
+        _ => noise.next() % (limit + 1),
+    }
+}
+
+/// A Type 0, 1 or 3 frame whose fields lie near their limits, and whose checks are right.
+pub fn sealed(noise: &mut Noise, reader: &Reader) -> Vec<u8> {
+    let kind = [0u8, 1, 3][noise.next() as usize % 3];
+    let lengths: Vec<u64> = (0..noise.next() % 20).map(|_| near(noise, &[0, 100, 4_094])).collect();
+    let packet = if kind == 3 { lengths.len() as u64 } else { near(noise, &[0, 3, 4_096, 65_534]) };
+    let elapsed = match noise.next() % 8 {
+        0 => near(noise, &[4_095 * packet]),
+        _ if kind == 3 => lengths.iter().sum(),
+        _ => noise.next() % (4_095 * packet + 1),
+    };
+    let packets = packet + near(noise, &[0, 5, 1_000_000]);
+    let octets = elapsed + near(noise, &[0, 4_095 * (packets - packet)]);
+    let spare = if noise.next() % 4 == 0 { noise.next() as u8 & 15 } else { 0 };
+    let mut frame = vec![kind << 4 | spare];
+    frame.resize(Reader::control(kind), 0);
+    put(&mut frame, 1, 2, near(noise, &[0, 59_998, 65_534]) & 0xFFFF);
+    put(&mut frame, 3, 2, packet & 0xFFFF);
+    put(&mut frame, 5, 4, elapsed & 0xFFFF_FFFF);
+    if kind != 1 {
+        put(&mut frame, 9, 3, packets & 0xFF_FFFF);
+        put(&mut frame, 12, 5, octets & 0xFF_FFFF_FFFF);
+    }
+    match kind {
+        0 => frame.push(noise.next() as u8 & 3),
+        1 => {
+            let length = near(noise, &[0, 64, 1_400, 4_094]) as usize;
+            frame.extend([0, 0]);
+            frame.extend(noise.octets(length));
+        }
+        _ => {
+            frame.extend([0, 0]);
+            for pair in lengths.chunks(2) {
+                let two = pair[0] << 12 | pair.get(1).copied().unwrap_or(noise.next() << 8 & 0xF00) & 0xFFF;
+                frame.extend(&two.to_be_bytes()[5..if pair.len() == 2 { 8 } else { 7 }]);
+            }
+            let extension = near(noise, &[0, 4]) as usize;
+            frame.extend(noise.octets(extension));
+        }
+    }
+    reader.seal(&mut frame);
+    frame
+}
+
+/// One of: a sealed frame, one with a few bits turned, one cut or longer, one sealed again after damage, or noise.
+pub fn any(noise: &mut Noise, reader: &Reader) -> Vec<u8> {
+    let mut frame = sealed(noise, reader);
+    match noise.next() % 8 {
+        0 => {
+            for _ in 0..=noise.next() % 3 {
+                let bit = noise.next() as usize % (8 * frame.len());
+                frame[bit / 8] ^= 1 << (bit % 8);
+            }
+        }
+        1 => frame.truncate(noise.next() as usize % (frame.len() + 1)),
+        2 => {
+            let more = noise.next() as usize % 7;
+            frame.extend(noise.octets(more));
+        }
+        3 => {
+            let at = 1 + noise.next() as usize % (frame.len() - 1);
+            frame[at] = noise.next() as u8;
+            reader.seal(&mut frame);
+        }
+        4 => {
+            let length = noise.next() as usize % 40;
+            frame = noise.octets(length);
+        }
+        5 => frame[0] ^= (noise.next() as u8) << 4,
+        _ => {}
+    }
+    frame
+}
