@@ -7,4 +7,5 @@ pub mod OnePaper
 pub mod OrderOfRefusals
 pub mod ReadBack
 pub mod Said
+pub mod WhatWentIn
 pub mod WrittenAgain
