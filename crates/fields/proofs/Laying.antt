@@ -5,7 +5,7 @@ use native.Mathlib.Omega.{arith}
 use mathlib.Core.Path.{_≡_, ap, sym, _∙_}
 use mathlib.Core.List.{List, [], _∷_, _++_, append-assoc, append-nil}
 use lib.ListN.{length, take, drop, set, length-append, take-append-drop, length-drop}
-use lib.Seq.{append-snoc, take-at, drop-append-add, drop-drop, take-take, drop-cons, getD-set-same, drop-set-lt, lt-length-set, length-take-le, take-all}
+use lib.Seq.{append-snoc, take-at, drop-at, drop-append-add, drop-drop, take-take, drop-cons, getD-set-same, drop-set-lt, lt-length-set, length-take-le, take-all}
 use Rattle.fields.specs.Numbers.{octets}
 use Rattle.fields.specs.Runs.{laid, front}
 
@@ -54,3 +54,26 @@ octet-below s i w v h =
 -- a part to the end
 pub to-end : (n : ℕ) (s : List ℕ) → take (length s - n) (drop n s) ≡ drop n s
 to-end n s = take-all (length s - n) (drop n s) (simp length-drop (omega arith))
+
+-- memory o holds xs from at on, and ys is laid behind it
+pub laid-then : (old xs ys : List ℕ) (at : ℕ) {o : List ℕ} → at ≤ length old → o ≡ laid old at xs → laid o (at + length xs) ys ≡ laid old at (xs ++ ys)
+laid-then old xs ys at h e = ap (λ (o : List ℕ). laid o (at + length xs) ys) e ∙ sym (laid-split old xs ys at h)
+
+-- memory o holds xs in front, and o′ is o with ys laid behind it
+pub laid-on : (old xs ys : List ℕ) (n : ℕ) {o o′ : List ℕ} → length xs ≡ n → o ≡ front old xs → o′ ≡ laid o n ys → o′ ≡ front old (xs ++ ys)
+laid-on old xs ys n l e f = f ∙ ap (λ (o : List ℕ). laid o n ys) e ∙ laid-next old xs ys n l
+
+-- what stands from where a run was laid
+drop-laid : (old ys : List ℕ) (n : ℕ) → n ≤ length old → drop n (laid old n ys) ≡ ys ++ drop (n + length ys) old
+unfolding laid
+drop-laid old ys n h =
+    rw (append-assoc (take n old) ys (drop (n + length ys) old)) (drop-at (take n old) (ys ++ drop (n + length ys) old) n (length-take-le n old h))
+
+-- a run, taken from where it was laid
+pub part-laid : (old ys : List ℕ) (n m : ℕ) → n ≤ length old → length ys ≡ m → take m (drop n (laid old n ys)) ≡ ys
+part-laid old ys n m h e = rw (drop-laid old ys n h) (take-at ys (drop (n + length ys) old) m e)
+
+-- in front of a run that was laid before
+pub front-before : (old xs ys : List ℕ) (n : ℕ) → length xs ≡ n → n ≤ length old → front (laid old n ys) xs ≡ front old (xs ++ ys)
+unfolding front
+front-before old xs ys n e h = rw (length-append, e, drop-laid old ys n h) (sym (append-assoc xs ys (drop (n + length ys) old)))

@@ -1,4 +1,5 @@
 -- The house limits (document 01, "The part of SYNC we carry", "Frame layouts"), each the largest value that is still accepted.
+-- Assumes nothing.
 use Prim.Native.Nat.{ℕ}
 use mathlib.Core.List.{List, [], _∷_}
 

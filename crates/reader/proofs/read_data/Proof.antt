@@ -1,5 +1,5 @@
 -- `reader::read_data` meets its contract. Assumes nothing.
-use mathlib.Core.Path.{_≡_, ap}
+use mathlib.Core.Path.{_≡_, sym, ap, _∙_}
 use mathlib.Core.Bool.{true, false}
 use Prim.Native.Nat.{_-_, _<_, _≤_}
 use lib.ListN.{length}
@@ -39,7 +39,7 @@ unfolding readBody
 returns-2 c =
     let s = now (c .before .before .before .before .before .args .frame) in
     let h : length s - 11 ≤ 4095 = omega arith in
-    let p : payloadWrong 9 s ≡ true = cc in
+    let p : payloadWrong 9 s ≡ true = sym (c .before .payload-wrong .ensures) ∙ c .if2 .taken in
     simp (le-ltb _ _ h, p)
 
 data-of-requires : tie.Need-data-of-requires
@@ -48,13 +48,18 @@ data-of-requires c κs = search needs
 data-wrong-requires : tie.Need-data-wrong-requires
 data-wrong-requires c κs = search needs
 
+-- the test of the counts is of those that stand in the frame
+judged : (c : tie.After-data-wrong) → dataWrong (numberOf (now (c .before .before .before .before .before .before .before .args .frame))) (elapsedOf (now (c .before .before .before .before .before .before .before .args .frame))) ≡ c .data-wrong .result
+judged c =
+    ap (λ (x : DataPdu). dataWrong (x .number .0) (x .elapsed .0)) (sym (c .before .data-of .ensures)) ∙ sym (c .data-wrong .ensures)
+
 returns-3 : tie.Need-returns-3
 unfolding readBody
 returns-3 c =
     let s = now (c .before .before .before .before .before .before .before .before .args .frame) in
     let h : length s - 11 ≤ 4095 = omega arith in
-    let p : payloadWrong 9 s ≡ false = cc in
-    let w : dataWrong (numberOf s) (elapsedOf s) ≡ true = cc (ap (λ (x : DataPdu). dataWrong (x .number .0) (x .elapsed .0)) (c .before .before .data-of .ensures)) in
+    let p : payloadWrong 9 s ≡ false = sym (c .before .before .before .before .payload-wrong .ensures) ∙ c .before .before .before .if2 .left in
+    let w : dataWrong (numberOf s) (elapsedOf s) ≡ true = judged (c .before) ∙ c .if3 .taken in
     simp (le-ltb _ _ h, p, w)
 
 returns-4 : tie.Need-returns-4
@@ -62,8 +67,8 @@ unfolding readBody
 returns-4 c =
     let s = now (c .before .before .before .before .before .before .before .before .args .frame) in
     let h : length s - 11 ≤ 4095 = omega arith in
-    let p : payloadWrong 9 s ≡ false = cc in
-    let w : dataWrong (numberOf s) (elapsedOf s) ≡ false = cc (ap (λ (x : DataPdu). dataWrong (x .number .0) (x .elapsed .0)) (c .before .before .data-of .ensures)) in
+    let p : payloadWrong 9 s ≡ false = sym (c .before .before .before .before .payload-wrong .ensures) ∙ c .before .before .before .if2 .left in
+    let w : dataWrong (numberOf s) (elapsedOf s) ≡ false = judged (c .before) ∙ c .if3 .left in
     simp (le-ltb _ _ h, p, w, c .before .before .data-of .ensures)
 
 pub read-data-spec : {M : Type 1} → statement M

@@ -1,5 +1,5 @@
 -- `reader::read_with_lengths` meets its contract. Assumes nothing.
-use mathlib.Core.Path.{_≡_, ap}
+use mathlib.Core.Path.{_≡_, sym, ap, _∙_}
 use mathlib.Core.Bool.{true, false}
 use Prim.Native.Nat.{_+_, _<_, _≤_}
 use lib.ListN.{length}
@@ -83,7 +83,7 @@ unfolding readBody
 returns-3 c =
     let s = now (c .before .before .before .before .before .before .before .before .args .frame) in
     let z = sized (c .before .before .before) in
-    let p : payloadWrong 17 s ≡ true = cc in
+    let p : payloadWrong 17 s ≡ true = sym (c .before .payload-wrong .ensures) ∙ c .if3 .taken in
     simp (le-ltb _ _ (z .0), le-ltb _ _ (z .1), p)
 
 lengths-wrong-requires : tie.Need-lengths-wrong-requires
@@ -99,8 +99,8 @@ unfolding readBody
 returns-4 c =
     let s = now (c .before .before .before .before .before .before .before .before .before .before .args .frame) in
     let z = sized (c .before .before .before .before .before) in
-    let p : payloadWrong 17 s ≡ false = cc in
-    let w : lengthsWrong s (closingOf s) ≡ true = cc in
+    let p : payloadWrong 17 s ≡ false = sym (c .before .before .before .payload-wrong .ensures) ∙ c .before .before .if3 .left in
+    let w : lengthsWrong s (closingOf s) ≡ true = ap (lengthsWrong s) (sym (c .before .before .before .before .before .before .before .before .closing-of .ensures)) ∙ sym (c .before .lengths-wrong .ensures) ∙ c .if4 .taken in
     simp (le-ltb _ _ (z .0), le-ltb _ _ (z .1), p, w)
 
 returns-5 : tie.Need-returns-5
@@ -108,8 +108,8 @@ unfolding readBody
 returns-5 c =
     let s = now (c .before .before .before .before .before .before .before .before .before .before .args .frame) in
     let z = sized (c .before .before .before .before .before) in
-    let p : payloadWrong 17 s ≡ false = cc in
-    let w : lengthsWrong s (closingOf s) ≡ false = cc in
+    let p : payloadWrong 17 s ≡ false = sym (c .before .before .before .payload-wrong .ensures) ∙ c .before .before .if3 .left in
+    let w : lengthsWrong s (closingOf s) ≡ false = ap (lengthsWrong s) (sym (c .before .before .before .before .before .before .before .before .closing-of .ensures)) ∙ sym (c .before .lengths-wrong .ensures) ∙ c .if4 .left in
     simp (le-ltb _ _ (z .0), le-ltb _ _ (z .1), p, w, c .before .before .before .before .before .before .before .before .closing-of .ensures)
 
 pub read-with-lengths-spec : {M : Type 1} → statement M
