@@ -7,3 +7,8 @@ use Rattle.fields.specs.Choice.{_when_otherwise_}
 pub past : {A : Type 0} (a b x : A) (t : Bool) → (a ≡ x → ⊥) → (a when t otherwise b) ≡ x → (t ≡ false) × (b ≡ x)
 past a b x true h e = absurd (h e)
 past a b x false h e = (refl, e)
+
+-- what holds of the first answer, and of what follows where the test does not hold, holds of the chain
+pub whichever : {A : Type 0} (P : A → Type 0) (a b : A) (t : Bool) → P a → (t ≡ false → P b) → P (a when t otherwise b)
+whichever P a b true p q = p
+whichever P a b false p q = q refl

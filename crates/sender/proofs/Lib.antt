@@ -1,3 +1,6 @@
 pub mod Answering
+pub mod FramesOfSequence
+pub mod SentIsRead
+pub mod StaysUndamaged
 pub mod Undamaged
 pub mod Written

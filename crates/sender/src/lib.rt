@@ -133,10 +133,10 @@ pub fn sent(s: Sender, payload: &[u8], out: &mut [u8]) -> Sending
     if out.len() < 11 + payload.len() {
         return send_refused(s, NO_ROOM);
     }
+    let sender = with_packet(s, l);
     let number = s.number;
     let elapsed = s.elapsed;
     let answer = writer::write_data(s.stamp, number, elapsed, payload, out);
-    let sender = with_packet(s, l);
     Sending { answer, sender }
 }
 

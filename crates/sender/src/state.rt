@@ -175,14 +175,17 @@ pub fn with_packet(s: Sender, l: u64) -> Sender
 pub fn at_rest(s: Sender) -> Sender
     ensures { λ r. ⌜ r ≡ closedSender s ⌝ }
 {
-    let packets = s.packets;
-    let octets = s.octets;
+    let none = fresh();
+    let number = none.number;
+    let elapsed = none.elapsed;
+    let all_packets = s.packets;
+    let all_octets = s.octets;
     Sender {
         phase: Phase::Closed,
         stamp: s.stamp,
-        number: Packets(0),
-        elapsed: Octets(0),
-        packets,
-        octets,
+        number,
+        elapsed,
+        packets: all_packets,
+        octets: all_octets,
     }
 }

@@ -116,15 +116,15 @@ returns-7 c =
     let o : not (isOpen (s .phase)) ≡ false = ap not (sym (c .before .before .before .before .before .before .before .before .before .before .is-open .ensures)) ∙ c .before .before .before .before .before .before .before .before .before .if2 .left in
     kept (c .send-refused7 .ensures) (simp (g, o, le-ltb _ _ (c .before .before .before .before .before .before .before .before .if3 .left), lt-leb _ _ (c .before .before .before .before .before .before .if4 .left), lt-leb _ _ (c .before .before .before .before .if5 .left), le-ltb _ _ (c .before .before .if6 .left), lt-ltb _ _ (c .before .if7 .taken)))
 
-write-data-requires : tie.Need-write-data-requires
-write-data-requires c κs = search needs
-
 with-packet-requires : tie.Need-with-packet-requires
 with-packet-requires c κs =
-    let s = c .before .before .before .before .before .before .before .before .before .before .before .before .before .before .before .before .before .before .before .before .args .s in
-    let u = undamaged s (sym (c .before .before .before .before .before .before .before .before .before .before .before .before .before .before .before .before .before .is-damaged .ensures) ∙ c .before .before .before .before .before .before .before .before .before .before .before .before .before .before .before .before .if1 .left) in
+    let s = c .before .before .before .before .before .before .before .before .before .before .before .before .before .before .args .s in
+    let u = undamaged s (sym (c .before .before .before .before .before .before .before .before .before .before .before .is-damaged .ensures) ∙ c .before .before .before .before .before .before .before .before .before .before .if1 .left) in
     let p = u .possible in
-    (omega (arith, u .number), omega (arith, u .number, p .elapsed), omega (arith, u .packets), omega (arith, few-octets s u, u .packets), omega (arith, c .before .before .before .before .before .before .before .before .before .before .before .before .before .if3 .left))
+    (omega (arith, u .number), omega (arith, u .number, p .elapsed), omega (arith, u .packets), omega (arith, few-octets s u, u .packets), omega (arith, c .before .before .before .before .before .before .before .if3 .left))
+
+write-data-requires : tie.Need-write-data-requires
+write-data-requires c κs = search needs
 
 same-length : tie.Need-same-length
 same-length c = search needs
@@ -142,11 +142,11 @@ returns-8 c =
     let short : l ≤ 4095 = c .before .before .before .before .before .before .before .before .before .before .before .before .before .before .if3 .left in
     let room : 11 + l ≤ length out = c .before .before .before .before .before .before .before .if7 .left in
     let w = data-written s (undamaged s g) l (length out) few short room in
-    let e = c .before .before .before .write-data .ensures in
+    let e = c .before .before .write-data .ensures in
     written
     (simp (g, o, le-ltb _ _ short, lt-leb _ _ few, lt-leb _ _ (c .before .before .before .before .before .before .before .before .before .before .if5 .left), le-ltb _ _ (c .before .before .before .before .before .before .before .before .if6 .left), le-ltb _ _ room))
     (e .says ∙ ap writtenPaper w)
-    (c .with-packet .ensures)
+    (c .before .before .before .before .before .before .with-packet .ensures)
     (e .leaves ∙ ap (λ (x : Written). after x frame out) w)
 
 pub sent-spec : {M : Type 1} → statement M
@@ -173,7 +173,7 @@ sent-spec =
     add-if7
     send-refused-requires-7
     returns-7
-    write-data-requires
     with-packet-requires
+    write-data-requires
     same-length
     returns-8)
