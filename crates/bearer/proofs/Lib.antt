@@ -1,0 +1,3 @@
+pub mod InPlace
+pub mod Names
+pub mod Values

@@ -1,0 +1,141 @@
+-- `bearer::close` meets its contract: a walk of its MIR. The borrow is opened, the sender is copied out whole and passed to
+-- `closed`; the sender that comes back is stored over it, and the borrow is closed there. `out` goes to `closed` for good,
+-- under its own lifetime, share and name, so what `closed` promises of its last octets is promised of `out`. Of `closed` only
+-- its contract is used. Assumes nothing.
+use Rattle.bearer.proofs.Names.{_≡_, refl, ℕ, [], _∷_, List, URA, fullShare, named, Val, vptr, SProp, ent, ftrue, flft, fobs, fbor, fat, Memory, Routine, Heap, Calls, Loops, WpFn, Atoms, Fun, Lfts, Shares, givenOf, tables, tablesOf, Given, Item, ‵, raw, _⊛_, _$_, _∵_, !, qed, by, move, keep, drop, split, join, rewrite, fsplit, fsplit3, fjoin, fjoin3, feqI, suffices}
+use Rattle.bearer.proofs.Names.{frame, done, ⋆, use2, feqL, look, look-raw, init, store-raw, forget, stop, hop, fld, from, load, of-opd, and-then, no-more, assigns, land, returns, enter, alloc1, alloc0, params1, pass1, pass0, free1, free0, addr, whole, sub, look-in, agg, Body, FmC, fmOf, owns, Is, shows, Are, Ises, mem, u8, RefT, MutRef, ptr-vals, mut-tells, plain}
+use Rattle.bearer.proofs.Names.{typesAt, owned, peeks, heard, nothing, Args, Vals, onEntry, tripleOf, Contract, Triple, calls-at, entered, cited, says, Stays, stay-ref, walkOf, goes-ref, ends-at, gave-slice, goes-gave-slice, length, MutSlice, finally, slice-vals, mut-slice-tells}
+use Rattle.bearer.proofs.InPlace.{takes, puts, answers, meets}
+use Rattle.bearer.proofs.Values.{mach, written, slice, sending-is, sending-answer, sending-sender, sender-typed, written-typed, sending-typed, sender-makes, written-makes}
+use Rattle.frame.specs.Writing.{closingFrame}
+use Rattle.sender.specs.State.{closingBy}
+use Rattle.sender.specs.Calls.{closeCall, Sends}
+use Rattle.sender.specs.declared.Sender.{Sender}
+use Rattle.sender.specs.declared.Sending.{Sending}
+use Rattle.sender.proofs.Sender as S
+use Rattle.sender.proofs.Sender.Laws as S′
+use Rattle.sender.proofs.Sending as R
+use Rattle.sender.proofs.Sending.Laws as R′
+use Rattle.frame.proofs.Written as N
+use Rattle.sender.proofs.closed as callee
+use Rattle.sender.proofs.closed.Symbol as callee-def
+use Rattle.sender.proofs.closed.Symbol.{name as #callee}
+use Rattle.sender.proofs.closed.Met as callee-thm
+use Rattle.bearer.proofs.close.Key.{name as #this}
+use Rattle.bearer.proofs.close as this
+use Rattle.bearer.proofs.close.Statement as stated
+use Rattle.bearer.proofs.close.Code as code
+
+-- how the parameters end: the sender is handed back, and `out` was given away
+abbrev stayed : Stays (this.ended .signature .params) (this.ended .kept)
+stayed = (stay-ref (0 ∷ []) tt (plain (λ _. S.the-row)), (gave-slice (1 ∷ []) tt (plain (λ _. u8)), tt))
+
+-- the contract of `closed`
+abbrev Callee : {M : Type 1} (𝓤 : URA M) (H : Heap 𝓤) (A : Atoms 𝓤) (at-mem : Memory → SProp 𝓤) (run : Routine → Fun 𝓤) → Contract 𝓤
+Callee 𝓤 H A at-mem run = tripleOf 𝓤 H A callee.signature (callee.spec 𝓤 H A at-mem run)
+
+module _ {M : Type 1} (𝓤 : URA M) (H : Heap 𝓤) (A : Atoms 𝓤) (W : Given 𝓤 H A) (at-mem : Memory → SProp 𝓤) (run : Routine → Fun 𝓤) (κs : Lfts 2) (qs : Shares 2) (a : Args this.signature κs) where
+  -- the sender at entry, and where it stands
+  abbrev h : Sender
+  h = a .0 .now
+
+  abbrev b : ℕ
+  b = a .0 .ptr .0
+
+  abbrev o : ℕ
+  o = a .0 .ptr .1
+
+  -- the other parameter
+  abbrev out : RefT (List ℕ)
+  out = a .1 .0
+
+  abbrev at : Vals this.signature κs
+  at = (vptr b o ∷ [], (slice out ∷ [], tt))
+
+  abbrev passed : List Val
+  passed = vptr b o ∷ slice out ∷ []
+
+  -- the token of the other parameter, and what it owns
+  abbrev Tokens : Item 𝓤
+  Tokens = ‵ (flft (κs .1 .0) (qs .1 .0)) ⊛ ‵ ftrue
+
+  abbrev Others : Item 𝓤
+  Others = ‵ (owns (MutSlice (named 1) (κs .1 .0) u8 ∷ []) (a .1) (at .1))
+
+  -- what `closed` promises of its result and of the last octets
+  abbrev Says : Sending → List ℕ → Type 0
+  Says r zs = Sends (closeCall h (length (out .now))) (closingFrame (closingBy h)) (out .now) r zs
+
+  abbrev Post : Val → SProp 𝓤
+  Post = walkOf 𝓤 H A this.ended stayed (this.clauses 𝓤 H A at-mem run) .post ((κs, qs, tt, a, at), tt)
+
+  -- what is held once the locals are freed
+  abbrev Held : Sending → List ℕ → List (Item 𝓤)
+  Held r zs =
+      ‵ (fobs (a .0 .name) (S.the-row .coded .code (r .sender))) ∷ ‵ (fbor (κs .0) (Body (mem S.the-row) b o (a .0 .name))) ∷ ‵ (flft (κs .0) (qs .0)) ∷ Tokens ∷ ‵ (finally u8 (out .name) zs) ∷ []
+
+  -- the contract, from what `closed` promises
+  exits : (r : Sending) (zs : List ℕ) → Says r zs → length zs ≡ length (out .now) → Is N.the-row (r .answer) (written (r .answer) ∷ [])
+      → ent 𝓤 (⋆ 𝓤 H A (Held r zs)) (Post (written (r .answer)))
+  exits r zs e l is =
+      qed W (Held r zs) ∵
+      suffices ! _ (ends-at 𝓤 H A this.ended stayed (this.clauses 𝓤 H A at-mem run) W ((κs, qs, tt, a, at), tt) (written (r .answer)) (r .answer) (r .sender, (zs, tt)) (tt, (l, tt))) $
+      says ! e $ move ! (2 ∷ 3 ∷ []) $ join ! $ frame ! $ feqI ! (List Val) (vptr b o ∷ []) (vptr b o ∷ []) refl $ fjoin3 ! $ nothing ! $ move ! (2 ∷ 0 ∷ []) $ fjoin ! $ move ! (1 ∷ 0 ∷ []) $ fjoin ! $
+      owned ! N.the-row (Is N.the-row) (written-makes 𝓤 H A) (r .answer) _ is $ move ! (1 ∷ 0 ∷ []) $ done !
+
+  -- what `closed` asks: the sender by value, and the other parameter as it came
+  abbrev to-callee : Callee 𝓤 H A at-mem run .Ghost
+  to-callee = ((κs .1, qs .1, tt, (h, a .1), (mach h ∷ [], at .1)), tt)
+
+  asks : Is S.the-row h (mach h ∷ []) → ent 𝓤 (⋆ 𝓤 H A (Tokens ∷ Others ∷ [])) (Callee 𝓤 H A at-mem run .pre to-callee)
+  asks g =
+      qed W (Tokens ∷ Others ∷ []) ∵ move ! (1 ∷ 0 ∷ []) $
+      owned ! S.the-row (Is S.the-row) (sender-makes 𝓤 H A) h _ g $ fjoin ! $ move ! (1 ∷ 0 ∷ []) $ join ! $ nothing ! $ move ! (1 ∷ 0 ∷ []) $ done !
+
+  module _ (C : Calls 𝓤 H) (Λ : Loops 𝓤 H) (fm : FmC 𝓤 H (W .laws) C) (known : Triple 𝓤 (C #callee) (Callee 𝓤 H A at-mem run)) where
+    walk : Are (typesAt (this.signature .params) κs) (Ises (typesAt (this.signature .params) κs)) a at → ent 𝓤 (onEntry 𝓤 H A this.signature κs qs a at) (WpFn 𝓤 H C Λ code.function passed Post)
+    walk are =
+        qed W ((‵ (flft (κs .0) (qs .0)) ⊛ Tokens) ∷ ‵ (owns (MutRef (named 0) (κs .0) S.the-row ∷ MutSlice (named 1) (κs .1 .0) u8 ∷ []) a at) ∷ []) ∵ enter ! C Λ code.function passed _ $
+        alloc1 ! (λ l0. alloc1 ! (λ l1. alloc1 ! (λ l2. alloc1 ! (λ l3. alloc1 ! (λ l4. alloc1 ! (λ l5. alloc1 ! (λ l6. alloc0 ! $
+        params1 ! $ pass1 ! (init ! 10 refl (tt, tt)) $ pass1 ! (init ! 8 refl (tt, (tt, (record { fits = are .1 .0 .0 .1 .0 }, tt)))) $ pass0 ! $
+        -- the borrow is opened
+        move ! (15 ∷ []) $ fsplit ! $ fsplit3 ! $ drop ! $ move ! (17 ∷ []) $ split ! $ move ! (2 ∷ 3 ∷ 0 ∷ []) $ takes ! tt S.the-type S′.the-laws h b o (λ g.
+        -- at 0 the sender's cell, 1 the open borrow, 2 obs, 3 auth, 4 the tokens, 5 the others, 6 _6, 8 _5, 10 _4, 12 _3, 14 _2, 16 _1, 18 _0
+        -- _4 = *s
+        assigns ! (of-opd ! (load ! (from ! (hop ! (look ! 16 refl) (stop !))) (look-raw ! 0 refl))) (from ! (stop !)) (init ! 10 refl (sender-typed W h g .0)) $
+        -- _6 = &mut *_2, of length that of _2
+        assigns ! (addr ! (from ! (fld ! refl (hop ! (look-in ! 14 (sub ! 0 refl (whole !))) (stop !))))) (from ! (stop !)) (init ! 8 refl (tt, tt)) $
+        assigns ! (agg ! (and-then ! (load ! (from ! (stop !)) (look ! 8 refl)) (and-then ! (load ! (from ! (fld ! refl (stop !))) (look-in ! 14 (sub ! 1 refl (whole !)))) (no-more !)))) (from ! (stop !)) (init ! 6 refl (tt, (tt, (record { fits = are .1 .0 .0 .1 .0 }, tt)))) $
+        move ! (4 ∷ 5 ∷ []) $ use2 W (raw (Callee 𝓤 H A at-mem run .pre to-callee)) (asks g) $
+        -- at 0 what `closed` asks, 1 the sender's cell, 2 the open borrow, 3 obs, 4 auth, 5 _6, 7 _5, 9 _4, 11 _3, 13 _2, 15 _1, 17 _0
+        -- _3 = closed(_4, _6)
+        calls-at ! fm (Callee 𝓤 H A at-mem run) known to-callee (and-then ! (load ! (from ! (stop !)) (look ! 9 refl)) (and-then ! (load ! (from ! (stop !)) (look ! 5 refl)) (no-more !))) (λ v.
+        answers ! tt callee.ended (callee.clauses 𝓤 H A at-mem run) to-callee v (λ r ws. heard ! (Says r (ws .1 .0)) (λ e. fsplit ! $ drop ! $ fsplit ! $ fsplit ! $ move ! (1 ∷ []) $ feqL ! (λ l. move ! (1 ∷ []) $ drop ! $
+        -- at 0 the last octets, 1 the tokens, 2 what the result owns, 3 the sender's cell
+        move ! (2 ∷ []) $ peeks ! R.the-row (Is R.the-row) (shows 𝓤 H A R.the-row) r (v ∷ []) (λ is. drop ! $ move ! (2 ∷ 3 ∷ 4 ∷ 5 ∷ []) $
+        -- at 0 the sender's cell, 1 the open borrow, 2 obs, 3 auth, 4 the last octets, 5 the tokens, 6 _6, 8 _5, 10 _4, 12 _3, 14 _2, 16 _1, 18 _0
+        land ! (from ! (stop !)) (init ! 12 refl (sending-typed W r is .0)) $ rewrite ! 12 (λ (u : Val). ‵ (fat fullShare R′.mir l3 0 u)) (sending-is r v is) refl $
+        -- *s = _3.sender
+        assigns ! (of-opd ! (load ! (from ! (fld ! refl (stop !))) (look-in ! 12 (sub ! 1 refl (whole !))))) (from ! (hop ! (look ! 16 refl) (stop !))) (store-raw ! 0 refl (sender-typed W (r .sender) (sending-sender r v is) .0)) $
+        -- _0 = _3.answer
+        assigns ! (of-opd ! (load ! (from ! (fld ! refl (stop !))) (look-in ! 12 (sub ! 0 refl (whole !))))) (from ! (stop !)) (init ! 18 refl (written-typed W (r .answer) (sending-answer r v is) .0)) $
+        -- the borrow is closed
+        puts ! tt S.the-type S′.the-laws S′.the-plain (r .sender) (sending-sender r v is) b o $
+        -- at 0 obs, 1 the borrow, 2 its token, 3 the last octets, 4 the tokens, 5 _6, 7 _5, 9 _4, 11 _3, 13 _2, 15 _1, 17 _0
+        returns ! (look ! 17 refl) $ forget ! 5 refl $ forget ! 7 refl $ forget ! 9 refl $ forget ! 11 refl $ forget ! 13 refl $ forget ! 15 refl $ forget ! 17 refl $
+        move ! (17 ∷ 18 ∷ []) $ free1 ! $ move ! (15 ∷ 16 ∷ []) $ free1 ! $ move ! (13 ∷ 14 ∷ []) $ free1 ! $ move ! (11 ∷ 12 ∷ []) $ free1 ! $ move ! (9 ∷ 10 ∷ []) $ free1 ! $ move ! (7 ∷ 8 ∷ []) $ free1 ! $ move ! (5 ∷ 6 ∷ []) $ free1 ! $ free0 ! $
+        keep ! (0 ∷ 1 ∷ 2 ∷ 4 ∷ 3 ∷ []) $ by ! (exits r (ws .1 .0) e l (sending-answer r v is)))))))))))))))
+
+pub close-spec : {M : Type 1} → stated.statement M
+unfolding code.routine tablesOf
+close-spec 𝓤 H 𝓜 𝓖 𝓡 =
+    let W = givenOf 𝓤 H 𝓜 𝓖 in
+    let 𝓣 = tablesOf 𝓤 H 𝓜 (tables 𝓤 H 𝓜 𝓡 code.env) in
+    let known = cited 𝓤 H (Callee 𝓤 H (𝓖 .A) (𝓜 .mem) (𝓡 .run)) 𝓜 𝓡 code.env #callee callee-def.routine code.calls-sender·closed (callee-thm.met 𝓤 H 𝓜 𝓖 𝓡) in
+    entered 𝓤 H (tripleOf 𝓤 H (𝓖 .A) this.signature (this.spec 𝓤 H (𝓖 .A) (𝓜 .mem) (𝓡 .run)))
+    (tables 𝓤 H 𝓜 𝓡 code.env .C) (tables 𝓤 H 𝓜 𝓡 code.env .Λ) #this code.function (code.unfolded 𝓤 H 𝓜 𝓡)
+    (meets 𝓤 H (𝓖 .A) W this.ended stayed
+    (goes-ref 𝓤 H (𝓖 .A) W 2 0 tt (plain (λ _. S.the-row)), (goes-gave-slice 𝓤 H (𝓖 .A) W 2 1 tt (plain (λ _. u8)), tt))
+    (this.clauses 𝓤 H (𝓖 .A) (𝓜 .mem) (𝓡 .run)) code.function 𝓣
+    (λ κs. (ptr-vals, (slice-vals, tt))) (λ κs. (mut-tells (named 0) (κs .0) S.the-row, (mut-slice-tells (named 1) (κs .1 .0) u8, tt)))
+    (λ κs qs bounds a g are. walk 𝓤 H (𝓖 .A) W (𝓜 .mem) (𝓡 .run) κs qs a (𝓣 .C) (𝓣 .Λ) (fmOf 𝓤 H (W .laws) 𝓣) known are))
