@@ -5,10 +5,9 @@ use borrow.Author.Tests.{lt-ltb, le-ltb}
 use denote.Ref.{now}
 use lib.ListN.{length}
 use Prim.Native.Nat.{_≤_}
-use Rattle.frame.specs.declared.ClosingPdu.{ClosingPdu}
 use Rattle.frame.specs.declared.Written.{Written}
 use Rattle.frame.specs.Paper.{writtenPaper}
-use Rattle.frame.specs.Writing.{after, closingFrame, writeClosing}
+use Rattle.frame.specs.Writing.{after, closingFrame}
 use Rattle.sender.specs.State.{damaged, isOpen, closingBy}
 use Rattle.sender.specs.Calls.{closeCall}
 use Rattle.sender.proofs.Answering.{kept, written}
@@ -76,15 +75,13 @@ returns-4 c =
     let o : not (isOpen (s .phase)) ≡ false = ap not (sym (c .before .before .before .before .before .before .before .before .is-open .ensures)) ∙ c .before .before .before .before .before .before .before .if2 .left in
     let out = now (c .before .before .before .before .before .before .before .before .before .before .before .before .args .out) in
     let h : 18 ≤ length out = c .before .before .before .before .before .before .if3 .left in
-    let u = undamaged s g in
-    let w = closing-written s u (length out) h in
-    let by = c .before .before .before .before .before .closing-of .ensures in
-    let e = c .before .before .before .write-closing .ensures in
+    let w = closing-written s (undamaged s g) (length out) h in
+    let e = rw (c .before .before .before .before .before .closing-of .ensures) at (c .before .before .before .write-closing .ensures) in
     written
     (simp (g, o, le-ltb _ _ h))
-    (e .says ∙ ap (λ (x : ClosingPdu). writtenPaper (writeClosing x (length out))) by ∙ ap writtenPaper w)
+    (e .says ∙ ap writtenPaper w)
     (c .at-rest .ensures)
-    (e .leaves ∙ ap (λ (x : ClosingPdu). after (writeClosing x (length out)) (closingFrame x) out) by ∙ ap (λ (x : Written). after x (closingFrame (closingBy s)) out) w)
+    (e .leaves ∙ ap (λ (x : Written). after x (closingFrame (closingBy s)) out) w)
 
 pub closed-spec : {M : Type 1} → statement M
 closed-spec =

@@ -4,7 +4,6 @@ use mathlib.Core.Bool.{true, false, not}
 use borrow.Author.Tests.{not-false}
 use denote.Ref.{now}
 use lib.ListN.{length}
-use Rattle.frame.specs.declared.ClosingPdu.{ClosingPdu}
 use Rattle.frame.specs.declared.Written.{Written}
 use Rattle.frame.specs.Paper.{writtenPaper}
 use Rattle.frame.proofs.OnePaper.{written-known}
@@ -67,44 +66,33 @@ send-refused-requires-3 c κs = search needs
 same-length : tie.Need-same-length
 same-length c = search needs
 
+-- where the writer answered w: what the call then is, and what the memory holds
+outcome : (c : tie.After-slice-known2) (w : Written) → c .before .before .write-closing-with-lengths .result ≡ w
+    → (closeWithCall (c .before .before .before .before .before .before .before .before .before .before .before .args .s) (now (c .before .before .before .before .before .before .before .before .before .before .before .args .lengths)) (length (now (c .before .before .before .before .before .before .before .before .before .before .before .args .out))) ≡ closedBy (c .before .before .before .before .before .before .before .before .before .before .before .args .s) w)
+    × (c .before .before .write-closing-with-lengths .last .1 .1 .0 ≡ after w (lengthsFrame (closingBy (c .before .before .before .before .before .before .before .before .before .before .before .args .s)) (now (c .before .before .before .before .before .before .before .before .before .before .before .args .lengths))) (now (c .before .before .before .before .before .before .before .before .before .before .before .args .out)))
+outcome c w told =
+    let a = c .before .before .before .before .before .before .before .before .before .before .before .args in
+    let g : damaged (a .s) ≡ false = sym (c .before .before .before .before .before .before .before .before .is-damaged .ensures) ∙ c .before .before .before .before .before .before .before .if1 .left in
+    let o : isOpen (a .s .phase) ≡ true = not-false _ (ap not (sym (c .before .before .before .before .before .before .is-open .ensures)) ∙ c .before .before .before .before .before .if2 .left) in
+    let e = rw (c .before .before .before .before .closing-of .ensures) at (c .before .before .write-closing-with-lengths .ensures) in
+    let f : writeLengths (closingBy (a .s)) (now (a .lengths)) (length (now (a .out))) ≡ w = sym (written-known _ _ (e .says)) ∙ told in (
+      lengths-closed (a .s) (undamaged (a .s) g) g o (now (a .lengths)) (length (now (a .out))) ∙ ap (closedBy (a .s)) f,
+      e .leaves ∙ ap (λ (x : Written). after x (lengthsFrame (closingBy (a .s)) (now (a .lengths))) (now (a .out))) f,
+    )
+
 returns-3 : tie.Need-returns-3
 returns-3 c =
-    let a = c .before .before .before .before .before .before .before .before .before .before .before .before .before .before .before .args in
-    let s = a .s in
-    let g : damaged s ≡ false = sym (c .before .before .before .before .before .before .before .before .before .before .before .before .is-damaged .ensures) ∙ c .before .before .before .before .before .before .before .before .before .before .before .if1 .left in
-    let o : isOpen (s .phase) ≡ true = not-false _ (ap not (sym (c .before .before .before .before .before .before .before .before .before .before .is-open .ensures)) ∙ c .before .before .before .before .before .before .before .before .before .if2 .left) in
-    let ls = now (a .lengths) in
-    let out = now (a .out) in
-    let by = c .before .before .before .before .before .before .before .before .closing-of .ensures in
-    let call = c .before .before .before .before .before .before .write-closing-with-lengths in
-    let told = c .before .before .written .given in
-    let w = sym (ap (λ (x : ClosingPdu). writeLengths x ls (length out)) by) ∙ sym (written-known _ _ (call .ensures .says)) ∙ told .1 in
-    written
-    (lengths-closed s (undamaged s g) g o ls (length out) ∙ ap (closedBy s) w)
-    refl
-    (c .at-rest .ensures)
-    (call .ensures .leaves ∙ ap (λ (x : ClosingPdu). after (writeLengths x ls (length out)) (lengthsFrame x ls) out) by ∙ ap (λ (x : Written). after x (lengthsFrame (closingBy s) ls) out) w)
+    let q = outcome (c .before .before .before .before) _ (c .before .before .written .given .1) in
+    written (q .0) refl (c .at-rest .ensures) (q .1)
 
 same-length-2 : tie.Need-same-length-2
 same-length-2 c = search needs
 
 returns-4 : tie.Need-returns-4
 returns-4 c =
-    let a = c .before .before .before .before .before .before .before .before .before .before .before .before .before .before .before .args in
-    let s = a .s in
-    let g : damaged s ≡ false = sym (c .before .before .before .before .before .before .before .before .before .before .before .before .is-damaged .ensures) ∙ c .before .before .before .before .before .before .before .before .before .before .before .if1 .left in
-    let o : isOpen (s .phase) ≡ true = not-false _ (ap not (sym (c .before .before .before .before .before .before .before .before .before .before .is-open .ensures)) ∙ c .before .before .before .before .before .before .before .before .before .if2 .left) in
-    let ls = now (a .lengths) in
-    let out = now (a .out) in
-    let by = c .before .before .before .before .before .before .before .before .closing-of .ensures in
-    let call = c .before .before .before .before .before .before .write-closing-with-lengths in
-    let told = c .before .before .written2 .given in
-    let w = sym (ap (λ (x : ClosingPdu). writeLengths x ls (length out)) by) ∙ sym (written-known _ _ (call .ensures .says)) ∙ told .1 in
-    written
-    (lengths-closed s (undamaged s g) g o ls (length out) ∙ ap (closedBy s) w)
-    (ap (λ (x : Sending). writtenPaper (x .answer)) (c .send-refused3 .ensures))
-    (ap (λ (x : Sending). x .sender) (c .send-refused3 .ensures))
-    (call .ensures .leaves ∙ ap (λ (x : ClosingPdu). after (writeLengths x ls (length out)) (lengthsFrame x ls) out) by ∙ ap (λ (x : Written). after x (lengthsFrame (closingBy s) ls) out) w)
+    let q = outcome (c .before .before .before .before) _ (c .before .before .written2 .given .1) in
+    let r = c .send-refused3 .ensures in
+    written (q .0) (ap (λ (x : Sending). writtenPaper (x .answer)) r) (ap (λ (x : Sending). x .sender) r) (q .1)
 
 pub closed-with-lengths-spec : {M : Type 1} → statement M
 closed-with-lengths-spec =

@@ -14,7 +14,6 @@ use Rattle.sender.specs.Calls.{dataCall}
 use Rattle.sender.proofs.Answering.{kept, written}
 use Rattle.sender.proofs.Undamaged.{undamaged, few-octets}
 use Rattle.sender.proofs.Written.{data-written}
-use native.Mathlib.Omega.{arith}
 use borrow.Author.Needs.{needs}
 use Rattle.sender.proofs.sent.Statement.{statement}
 use Rattle.sender.proofs.sent.Tie as tie
@@ -32,6 +31,14 @@ returns c =
     let g : damaged s ≡ true = sym (c .before .before .is-damaged .ensures) ∙ c .before .if1 .taken in
     kept (c .send-refused .ensures) (simp g)
 
+-- past the first refusal the sender is undamaged
+sound : (c : tie.Else1) → damaged (c .before .before .before .before .args .s) ≡ false
+sound c = sym (c .before .is-damaged .ensures) ∙ c .if1 .left
+
+-- past the second its sequence is open
+open-still : (c : tie.Else2) → not (isOpen (c .before .before .before .before .before .before .args .s .phase)) ≡ false
+open-still c = ap not (sym (c .before .is-open .ensures)) ∙ c .if2 .left
+
 is-open-requires : tie.Need-is-open-requires
 is-open-requires c κs = search needs
 
@@ -42,7 +49,7 @@ returns-2 : tie.Need-returns-2
 unfolding dataCall
 returns-2 c =
     let s = c .before .before .before .before .before .before .before .args .s in
-    let g : damaged s ≡ false = sym (c .before .before .before .before .is-damaged .ensures) ∙ c .before .before .before .if1 .left in
+    let g = sound (c .before .before .before) in
     let o : not (isOpen (s .phase)) ≡ true = ap not (sym (c .before .before .is-open .ensures)) ∙ c .before .if2 .taken in
     kept (c .send-refused2 .ensures) (simp (g, o))
 
@@ -52,9 +59,8 @@ send-refused-requires-3 c κs = search needs
 returns-3 : tie.Need-returns-3
 unfolding dataCall
 returns-3 c =
-    let s = c .before .before .before .before .before .before .before .before .args .s in
-    let g : damaged s ≡ false = sym (c .before .before .before .before .before .is-damaged .ensures) ∙ c .before .before .before .before .if1 .left in
-    let o : not (isOpen (s .phase)) ≡ false = ap not (sym (c .before .before .before .is-open .ensures)) ∙ c .before .before .if2 .left in
+    let g = sound (c .before .before .before .before) in
+    let o = open-still (c .before .before) in
     kept (c .send-refused3 .ensures) (simp (g, o, lt-ltb _ _ (c .before .if3 .taken)))
 
 cast-if4 : tie.Need-cast-if4
@@ -66,9 +72,8 @@ send-refused-requires-4 c κs = search needs
 returns-4 : tie.Need-returns-4
 unfolding dataCall
 returns-4 c =
-    let s = c .before .before .before .before .before .before .before .before .before .before .args .s in
-    let g : damaged s ≡ false = sym (c .before .before .before .before .before .before .before .is-damaged .ensures) ∙ c .before .before .before .before .before .before .if1 .left in
-    let o : not (isOpen (s .phase)) ≡ false = ap not (sym (c .before .before .before .before .before .is-open .ensures)) ∙ c .before .before .before .before .if2 .left in
+    let g = sound (c .before .before .before .before .before .before) in
+    let o = open-still (c .before .before .before .before) in
     kept (c .send-refused4 .ensures) (simp (g, o, le-ltb _ _ (c .before .before .before .if3 .left), le-leb _ _ (c .before .if4 .taken)))
 
 cast-if5 : tie.Need-cast-if5
@@ -80,15 +85,14 @@ send-refused-requires-5 c κs = search needs
 returns-5 : tie.Need-returns-5
 unfolding dataCall
 returns-5 c =
-    let s = c .before .before .before .before .before .before .before .before .before .before .before .before .args .s in
-    let g : damaged s ≡ false = sym (c .before .before .before .before .before .before .before .before .before .is-damaged .ensures) ∙ c .before .before .before .before .before .before .before .before .if1 .left in
-    let o : not (isOpen (s .phase)) ≡ false = ap not (sym (c .before .before .before .before .before .before .before .is-open .ensures)) ∙ c .before .before .before .before .before .before .if2 .left in
+    let g = sound (c .before .before .before .before .before .before .before .before) in
+    let o = open-still (c .before .before .before .before .before .before) in
     kept (c .send-refused5 .ensures) (simp (g, o, le-ltb _ _ (c .before .before .before .before .before .if3 .left), lt-leb _ _ (c .before .before .before .if4 .left), le-leb _ _ (c .before .if5 .taken)))
 
 add-if6 : tie.Need-add-if6
 add-if6 c =
     let s = c .before .before .before .before .before .before .before .before .before .before .before .before .args .s in
-    let u = undamaged s (sym (c .before .before .before .before .before .before .before .before .before .is-damaged .ensures) ∙ c .before .before .before .before .before .before .before .before .if1 .left) in
+    let u = undamaged s (sound (c .before .before .before .before .before .before .before .before)) in
     omega (arith, few-octets s u, u .packets, c .before .before .before .before .before .if3 .left)
 
 send-refused-requires-6 : tie.Need-send-refused-requires-6
@@ -97,9 +101,8 @@ send-refused-requires-6 c κs = search needs
 returns-6 : tie.Need-returns-6
 unfolding dataCall
 returns-6 c =
-    let s = c .before .before .before .before .before .before .before .before .before .before .before .before .before .before .args .s in
-    let g : damaged s ≡ false = sym (c .before .before .before .before .before .before .before .before .before .before .before .is-damaged .ensures) ∙ c .before .before .before .before .before .before .before .before .before .before .if1 .left in
-    let o : not (isOpen (s .phase)) ≡ false = ap not (sym (c .before .before .before .before .before .before .before .before .before .is-open .ensures)) ∙ c .before .before .before .before .before .before .before .before .if2 .left in
+    let g = sound (c .before .before .before .before .before .before .before .before .before .before) in
+    let o = open-still (c .before .before .before .before .before .before .before .before) in
     kept (c .send-refused6 .ensures) (simp (g, o, le-ltb _ _ (c .before .before .before .before .before .before .before .if3 .left), lt-leb _ _ (c .before .before .before .before .before .if4 .left), lt-leb _ _ (c .before .before .before .if5 .left), lt-ltb _ _ (c .before .if6 .taken)))
 
 add-if7 : tie.Need-add-if7
@@ -111,15 +114,14 @@ send-refused-requires-7 c κs = search needs
 returns-7 : tie.Need-returns-7
 unfolding dataCall
 returns-7 c =
-    let s = c .before .before .before .before .before .before .before .before .before .before .before .before .before .before .before .args .s in
-    let g : damaged s ≡ false = sym (c .before .before .before .before .before .before .before .before .before .before .before .before .is-damaged .ensures) ∙ c .before .before .before .before .before .before .before .before .before .before .before .if1 .left in
-    let o : not (isOpen (s .phase)) ≡ false = ap not (sym (c .before .before .before .before .before .before .before .before .before .before .is-open .ensures)) ∙ c .before .before .before .before .before .before .before .before .before .if2 .left in
+    let g = sound (c .before .before .before .before .before .before .before .before .before .before .before) in
+    let o = open-still (c .before .before .before .before .before .before .before .before .before) in
     kept (c .send-refused7 .ensures) (simp (g, o, le-ltb _ _ (c .before .before .before .before .before .before .before .before .if3 .left), lt-leb _ _ (c .before .before .before .before .before .before .if4 .left), lt-leb _ _ (c .before .before .before .before .if5 .left), le-ltb _ _ (c .before .before .if6 .left), lt-ltb _ _ (c .before .if7 .taken)))
 
 with-packet-requires : tie.Need-with-packet-requires
 with-packet-requires c κs =
     let s = c .before .before .before .before .before .before .before .before .before .before .before .before .before .before .args .s in
-    let u = undamaged s (sym (c .before .before .before .before .before .before .before .before .before .before .before .is-damaged .ensures) ∙ c .before .before .before .before .before .before .before .before .before .before .if1 .left) in
+    let u = undamaged s (sound (c .before .before .before .before .before .before .before .before .before .before)) in
     let p = u .possible in
     (omega (arith, u .number), omega (arith, u .number, p .elapsed), omega (arith, u .packets), omega (arith, few-octets s u, u .packets), omega (arith, c .before .before .before .before .before .before .before .if3 .left))
 
@@ -133,8 +135,8 @@ returns-8 : tie.Need-returns-8
 unfolding dataCall
 returns-8 c =
     let s = c .before .before .before .before .before .before .before .before .before .before .before .before .before .before .before .before .before .before .before .before .before .args .s in
-    let g : damaged s ≡ false = sym (c .before .before .before .before .before .before .before .before .before .before .before .before .before .before .before .before .before .before .is-damaged .ensures) ∙ c .before .before .before .before .before .before .before .before .before .before .before .before .before .before .before .before .before .if1 .left in
-    let o : not (isOpen (s .phase)) ≡ false = ap not (sym (c .before .before .before .before .before .before .before .before .before .before .before .before .before .before .before .before .is-open .ensures)) ∙ c .before .before .before .before .before .before .before .before .before .before .before .before .before .before .before .if2 .left in
+    let g = sound (c .before .before .before .before .before .before .before .before .before .before .before .before .before .before .before .before .before) in
+    let o = open-still (c .before .before .before .before .before .before .before .before .before .before .before .before .before .before .before) in
     let l = length (now (c .before .before .before .before .before .before .before .before .before .before .before .before .before .before .before .before .before .before .before .before .before .args .payload)) in
     let out = now (c .before .before .before .before .before .before .before .before .before .before .before .before .before .before .before .before .before .before .before .before .before .args .out) in
     let frame = dataFrame (s .stamp) (s .number .0) (s .elapsed .0) (now (c .before .before .before .before .before .before .before .before .before .before .before .before .before .before .before .before .before .before .before .before .before .args .payload)) in
