@@ -1,0 +1,9 @@
+pub mod AnyOrder
+pub mod BenchExamples
+pub mod ContradictsExactly
+pub mod DamagedExactly
+pub mod Decided
+pub mod NeighboursDecide
+pub mod Points
+pub mod StaysUndamaged
+pub mod SumsBefore

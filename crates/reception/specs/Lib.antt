@@ -1,0 +1,6 @@
+pub mod Adding
+pub mod Damage
+pub mod Neighbours
+pub mod OneSequence
+pub mod Sendings
+pub mod Walk

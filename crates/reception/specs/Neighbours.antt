@@ -1,0 +1,21 @@
+-- What of a record lies next to a packet number: the last packet heard before it, and the first after it (`proofs/NeighboursDecide`
+-- says that no other place has to be looked at). Assumes nothing.
+use Prim.Native.Nat.{ℕ, zero, suc, _+_}
+use mathlib.Core.Bool.{Bool, cond}
+use Rattle.reception.specs.Sendings.{Held}
+use Rattle.reception.specs.Walk.{fits, ends, isHeard}
+
+-- the number after the last packet heard below n, 0 where none was
+unfoldable pub endTo : Held → ℕ → ℕ
+endTo r zero = 0
+endTo r (suc n) = cond (isHeard r n) (suc n) (endTo r n)
+
+-- and the octets before that number
+unfoldable pub octetsTo : Held → ℕ → ℕ
+octetsTo r zero = 0
+octetsTo r (suc n) = cond (isHeard r n) (r .elapsed n + r .size n) (octetsTo r n)
+
+-- the first packet heard among n places from k on, or else the closing, can come after packets that end before number i, at a octets
+unfoldable pub nextFits : Held → ℕ → ℕ → ℕ → ℕ → Bool
+nextFits r zero k i a = ends r i a
+nextFits r (suc n) k i a = cond (isHeard r k) (fits i a k (r .elapsed k) (r .size k)) (nextFits r n (suc k) i a)

@@ -1,0 +1,76 @@
+-- What a record holds of one sending, and the hearing of parts of it one after another (document 01, "If an empty record hears only
+-- frames of one sequence"). Assumes nothing.
+use Prim.Native.Nat.{ℕ, _<_, _≤_}
+use mathlib.Core.Path.{_≡_}
+use mathlib.Core.Bool.{Bool, true, false, cond, _||_}
+use mathlib.Core.List.{List, [], _∷_}
+use lib.Dec.{eqb}
+use lib.ListN.{length, getD, take}
+use Rattle.frame.specs.Counts.{sumOf}
+use Rattle.reception.specs.Sendings.{Held}
+use Rattle.reception.specs.Adding.{withPacket, withClosing}
+
+-- a frame of a sequence: a packet by its number, or the closing
+pub data Part : Type 0 where
+  Packet : ℕ → Part
+  Closing : Part
+
+-- the record with that frame of the sending s added
+abbrev pub addPart : Held → List ℕ → Part → Held
+addPart r s (Packet k) = withPacket r k (sumOf (take k s)) (getD s k 0)
+addPart r s Closing = withClosing r (length s) (sumOf s)
+
+-- and with some, in the order in which they came
+unfoldable pub addParts : Held → List ℕ → List Part → Held
+addParts r s [] = r
+addParts r s (p ∷ ps) = addParts (addPart r s p) s ps
+
+-- whether packet k, or the closing, was among the parts
+abbrev pub isPacket : ℕ → Part → Bool
+isPacket k (Packet j) = eqb k j
+isPacket k Closing = false
+
+abbrev pub isClosing : Part → Bool
+isClosing (Packet j) = false
+isClosing Closing = true
+
+unfoldable pub came : ℕ → List Part → Bool
+came k [] = false
+came k (p ∷ ps) = isPacket k p || came k ps
+
+unfoldable pub closingCame : List Part → Bool
+closingCame [] = false
+closingCame (p ∷ ps) = isClosing p || closingCame ps
+
+-- what a record of capacity c holds of s, from which parts came alone
+abbrev pub holding : ℕ → List ℕ → List Part → Held
+holding c s ps =
+    record {
+      capacity = c;
+      mark = λ k. cond (came k ps) 1 0;
+      elapsed = λ k. cond (came k ps) (sumOf (take k s)) 0;
+      size = λ k. cond (came k ps) (getD s k 0) 0;
+      closed = closingCame ps;
+      count = cond (closingCame ps) (length s) 0;
+      total = cond (closingCame ps) (sumOf s) 0;
+    }
+
+-- two records are one, place by place
+pub record Same (a b : Held) : Type 0 where
+  pub capacities : a .capacity ≡ b .capacity
+  pub marks : (k : ℕ) → a .mark k ≡ b .mark k
+  pub elapseds : (k : ℕ) → a .elapsed k ≡ b .elapsed k
+  pub sizes : (k : ℕ) → a .size k ≡ b .size k
+  pub closeds : a .closed ≡ b .closed
+  pub counts : a .count ≡ b .count
+  pub totals : a .total ≡ b .total
+
+-- a part of the sending s
+abbrev pub PartOf : List ℕ → Part → Type 0
+PartOf s (Packet k) = k < length s
+PartOf s Closing = 0 ≤ length s
+
+-- every one of some parts is
+unfoldable pub PartsOf : List ℕ → List Part → Type 0
+PartsOf s [] = 0 ≤ length s
+PartsOf s (p ∷ ps) = PartOf s p × PartsOf s ps
