@@ -11,7 +11,7 @@ use Rattle.units.specs.Limits.{lastStamp, mostCapacity}
 use Rattle.frame.proofs.Said.{or-false}
 use Rattle.reception.specs.Sendings.{Held}
 use Rattle.reception.specs.Walk.{isExplained}
-use Rattle.reception.specs.Damage.{Undamaged, notBothZero, placeWrong, placesWrong, closingOff, damagedRecord}
+use Rattle.reception.specs.Damage.{Undamaged, notBothZero, placeWrong, placesWrong, closingOff, walkFails, damagedRecord}
 use Rattle.reception.proofs.Points.{either}
 use Rattle.reception.proofs.Decided.{Sized, up-to, walk-explained, explained-walk}
 
@@ -62,13 +62,13 @@ clean-places r zero f = refl
 clean-places r (suc n) f = or-no (clean-places r n (λ k lt. f k (omega arith))) (clean-place _ _ _ (f n (omega arith)))
 
 -- a closing that is not off
-closing-on : (r : Held) → closingOff r ≡ false → (r .count ≤ r .capacity) × (r .closed ≡ false → (r .count ≡ 0) × (r .total ≡ 0))
+closing-on : (r : Held) → closingOff (r .closed) (r .count) (r .total) (r .capacity) ≡ false → (r .count ≤ r .capacity) × (r .closed ≡ false → (r .count ≡ 0) × (r .total ≡ 0))
 unfolding closingOff
 closing-on r h =
     let p = or-false (ltb (r .capacity) (r .count)) (not (r .closed) && notBothZero (r .count) (r .total)) h in
     (ltb-false _ _ (p .0), λ f. both-zero _ _ (rw f at (p .1)))
 
-on-closing : (r : Held) → r .count ≤ r .capacity → (r .closed ≡ false → (r .count ≡ 0) × (r .total ≡ 0)) → closingOff r ≡ false
+on-closing : (r : Held) → r .count ≤ r .capacity → (r .closed ≡ false → (r .count ≡ 0) × (r .total ≡ 0)) → closingOff (r .closed) (r .count) (r .total) (r .capacity) ≡ false
 unfolding closingOff
 on-closing r le z = or-no (le-ltb _ _ le) (go (r .closed) refl)
   where
@@ -78,11 +78,11 @@ on-closing r le z = or-no (le-ltb _ _ le) (go (r .closed) refl)
 
 -- a record that passes is undamaged
 pub passed-undamaged : (stamp : ℕ) (r : Held) → r .capacity ≤ mostCapacity → damagedRecord stamp r ≡ false → Undamaged stamp r
-unfolding damagedRecord
+unfolding damagedRecord walkFails
 passed-undamaged stamp r fits h =
     let p = or-false (ltb lastStamp stamp) _ h in
-    let q = or-false (placesWrong r (r .capacity)) _ (p .1) in
-    let c = or-false (closingOff r) (not (isExplained r)) (q .1) in
+    let c = or-false (closingOff (r .closed) (r .count) (r .total) (r .capacity)) _ (p .1) in
+    let q = or-false (placesWrong r (r .capacity)) (not (isExplained r)) (c .1) in
     let w = closing-on r (c .0) in
     let s : Sized r = record { capacity-fits = fits; count-fits = λ _. omega (arith, fits, w .0) } in
     record {
@@ -91,13 +91,13 @@ passed-undamaged stamp r fits h =
       unheard = λ k lt. places-clean r _ (q .0) k lt .empty;
       unclosed = w .1;
       within = w .0;
-      explained = walk-explained r s (not-false _ (c .1));
+      explained = walk-explained r s (not-false _ (q .1));
     }
 
 -- an undamaged record passes
 pub undamaged-passed : (stamp : ℕ) (r : Held) → Undamaged stamp r → damagedRecord stamp r ≡ false
-unfolding damagedRecord
+unfolding damagedRecord walkFails
 undamaged-passed stamp r u =
     let places = clean-places r (r .capacity) (λ k lt. record { marked = u .marks k lt; empty = u .unheard k lt }) in
     let walked : not (isExplained r) ≡ false = rw (explained-walk r (u .explained .0) (u .explained .1)) in
-    or-no (le-ltb _ _ (u .in-range)) (or-no places (or-no (on-closing r (u .within) (u .unclosed)) walked))
+    or-no (le-ltb _ _ (u .in-range)) (or-no (on-closing r (u .within) (u .unclosed)) (or-no places walked))

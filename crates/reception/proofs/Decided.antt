@@ -13,7 +13,7 @@ use borrow.Author.Tests.{leb-true, ltb-true, ltb-false, eqb-false}
 use Rattle.units.specs.Limits.{mostPayload, mostInSequence}
 use Rattle.frame.specs.Counts.{sumOf}
 use Rattle.reception.specs.Sendings.{Held, Heard, Sent, Explains, Explained}
-use Rattle.reception.specs.Walk.{reach, fits, ends, isHeard, walk, isExplained}
+use Rattle.reception.specs.Walk.{reach, fits, ends, mayEnd, isHeard, walk, isExplained}
 use Rattle.reception.proofs.SumsBefore.{Short, sum-append, short-append, spread, length-spread, sum-spread, short-spread}
 use Rattle.reception.proofs.Points.{either, both, reach-says, explains-pairs, pairs-walk, step-heard, step-unheard}
 
@@ -113,7 +113,7 @@ finish-open r k i a s z e le p f = (
 )
 
 finish-closed : (r : Held) (k i a : ℕ) (s : List ℕ) → Sized r → k ≡ r .capacity → Partly r k i a s → r .closed ≡ true → ends r i a ≡ true → Explained r
-unfolding ends
+unfolding mayEnd
 finish-closed r k i a s z e p t c =
     let b = both (leb i (r .count)) (reach i a (r .count) (r .total)) (rw t at c) in
     let x = spread (r .count - i) (r .total - a) in

@@ -101,7 +101,7 @@ away : (r : Held) (k e l j : ℕ) → (j ≡ k → ⊥) → Alike (withPacket r 
 away r k e l j off = let d = ne-eqb j k off in record { marks = rw d; elapseds = rw d; sizes = rw d }
 
 past-it : (r : Held) (k e l n j i a : ℕ) → k < j → walk (withPacket r k e l) n j i a ≡ walk r n j i a
-unfolding walk ends
+unfolding walk
 past-it r k e l zero j i a lt = refl
 past-it r k e l (suc n) j i a lt =
     let same = away r k e l j (λ q. omega (arith, q)) in

@@ -1,6 +1,6 @@
 -- The points of a record, places at which the octets before are known: whatever explains the record goes through them, so every two of
 -- them are within reach of each other; and if they are, the walk accepts. Assumes nothing.
-use Prim.Native.Nat.{ℕ, zero, suc, _+_, _*_, _≤_}
+use Prim.Native.Nat.{ℕ, zero, suc, _+_, _*_, _-_, _≤_}
 use mathlib.Core.Path.{_≡_, refl, sym, ap, _∙_}
 use mathlib.Core.Logic.{_⊎_, inl, inr, ⊎-elim}
 use mathlib.Core.Bool.{Bool, true, false, not, _&&_, _||_, false≢true}
@@ -8,10 +8,10 @@ use mathlib.Core.List.{List}
 use native.Mathlib.Omega.{arith}
 use lib.Dec.{leb, ltb}
 use lib.ListN.{length, List·getD-eq-default}
-use borrow.Author.Tests.{le-leb, leb-true, ltb-true, ltb-false, eqb-true}
+use borrow.Author.Tests.{le-leb, lt-leb, leb-true, leb-false, ltb-true, ltb-false, eqb-true}
 use Rattle.units.specs.Limits.{mostPayload}
 use Rattle.reception.specs.Sendings.{Held, Heard, Sending, Explains}
-use Rattle.reception.specs.Walk.{reach, fits, ends, isHeard, walk, isExplained}
+use Rattle.reception.specs.Walk.{reach, fits, ends, mayEnd, isHeard, walk, isExplained}
 use Rattle.reception.proofs.SumsBefore.{Short, before, before-start, before-next, before-end, climb}
 
 pub either : (b : Bool) → (b ≡ true) ⊎ (b ≡ false)
@@ -36,6 +36,25 @@ reached i a j b h = and-yes (le-leb _ _ (h .0)) (le-leb _ _ (h .1))
 pub reach-says : (i a j b : ℕ) → reach i a j b ≡ true → Within i a j b
 unfolding reach
 reach-says i a j b h = let p = both (leb a b) (leb (b + mostPayload * i) (a + mostPayload * j)) h in (leb-true _ _ (p .0), leb-true _ _ (p .1))
+
+-- the same by the distances, where neither falls
+pub by-distance : (i a k e : ℕ) → i ≤ k → a ≤ e → leb (e - a) (mostPayload * (k - i)) ≡ reach i a k e
+unfolding reach
+by-distance i a k e le h = ⊎-elim near far (either (leb (e - a) (mostPayload * (k - i))))
+  where
+    up : leb a e ≡ true
+    up = le-leb a e h
+
+    near : leb (e - a) (mostPayload * (k - i)) ≡ true → leb (e - a) (mostPayload * (k - i)) ≡ (leb a e && leb (e + mostPayload * i) (a + mostPayload * k))
+    near t =
+        let p = leb-true (e - a) (mostPayload * (k - i)) t in
+        t ∙ sym (and-yes up (le-leb (e + mostPayload * i) (a + mostPayload * k) (omega arith)))
+
+    far : leb (e - a) (mostPayload * (k - i)) ≡ false → leb (e - a) (mostPayload * (k - i)) ≡ (leb a e && leb (e + mostPayload * i) (a + mostPayload * k))
+    far t =
+        let p = leb-false (e - a) (mostPayload * (k - i)) t in
+        let q = lt-leb (e + mostPayload * i) (a + mostPayload * k) (omega arith) in
+        t ∙ sym (rw (up, q) refl)
 
 -- packet number and octets before it: at the start, before and after each packet heard, and at the closing
 pub data Point (r : Held) : ℕ → ℕ → Type 0 where
@@ -84,7 +103,7 @@ unfolding walk
 step-unheard r n k i a t = rw t
 
 point-ends : (r : Held) → Pairwise r → (i a : ℕ) → Point r i a → ends r i a ≡ true
-unfolding ends
+unfolding mayEnd
 point-ends r p i a q = go (r .closed) refl
   where
     go : (b : Bool) → r .closed ≡ b → (not b || (leb i (r .count) && reach i a (r .count) (r .total))) ≡ true

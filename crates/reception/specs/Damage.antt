@@ -4,8 +4,10 @@ use Prim.Native.Nat.{ℕ, zero, suc, _≤_, _<_}
 use mathlib.Core.Path.{_≡_}
 use mathlib.Core.Logic.{_⊎_}
 use mathlib.Core.Bool.{Bool, false, not, _||_, _&&_}
+use mathlib.Core.List.{List}
+use lib.ListN.{length}
 use lib.Dec.{ltb, eqb}
-use Rattle.units.specs.Limits.{lastStamp}
+use Rattle.units.specs.Limits.{lastStamp, mostCapacity}
 use Rattle.reception.specs.Sendings.{Held, Explained}
 use Rattle.reception.specs.Walk.{isExplained}
 
@@ -18,6 +20,12 @@ pub record Undamaged (stamp : ℕ) (r : Held) : Type 0 where
   pub unclosed : r .closed ≡ false → (r .count ≡ 0) × (r .total ≡ 0)
   pub within : r .count ≤ r .capacity
   pub explained : Explained r
+
+-- three lists of one length, of document 01's capacity; refusal 14 says that they are not
+pub record Listed (marks elapsed sizes : List ℕ) : Type 0 where
+  pub room : length marks ≤ mostCapacity
+  pub elapseds : length elapsed ≡ length marks
+  pub lengths : length sizes ≡ length marks
 
 -- two numbers of which one is not zero
 abbrev pub notBothZero : ℕ → ℕ → Bool
@@ -32,9 +40,13 @@ unfoldable pub placesWrong : Held → ℕ → Bool
 placesWrong r zero = false
 placesWrong r (suc n) = placesWrong r n || placeWrong (r .mark n) (r .elapsed n) (r .size n)
 
--- N above capacity, or a closing that was not heard and is not zero
-unfoldable pub closingOff : Held → Bool
-closingOff r = ltb (r .capacity) (r .count) || (not (r .closed) && notBothZero (r .count) (r .total))
+-- a closing's N above capacity, or a closing that was not heard and is not zero
+unfoldable pub closingOff : Bool → ℕ → ℕ → ℕ → Bool
+closingOff closed n t capacity = ltb capacity n || (not closed && notBothZero n t)
+
+-- a place is wrong, or no sending explains the record: both are seen in one walk
+unfoldable pub walkFails : Held → Bool
+walkFails r = placesWrong r (r .capacity) || not (isExplained r)
 
 unfoldable pub damagedRecord : ℕ → Held → Bool
-damagedRecord stamp r = ltb lastStamp stamp || (placesWrong r (r .capacity) || (closingOff r || not (isExplained r)))
+damagedRecord stamp r = ltb lastStamp stamp || (closingOff (r .closed) (r .count) (r .total) (r .capacity) || walkFails r)

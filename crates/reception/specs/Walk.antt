@@ -14,9 +14,12 @@ reach i a k e = leb a e && leb (e + mostPayload * i) (a + mostPayload * k)
 unfoldable pub fits : ℕ → ℕ → ℕ → ℕ → ℕ → Bool
 fits i a k e l = leb l mostPayload && reach i a k e
 
--- so can the closing, where there is one
-unfoldable pub ends : Held → ℕ → ℕ → Bool
-ends r i a = not (r .closed) || (leb i (r .count) && reach i a (r .count) (r .total))
+-- so can a closing of n packets and t octets, where there is one
+unfoldable pub mayEnd : Bool → ℕ → ℕ → ℕ → ℕ → Bool
+mayEnd closed n t i a = not closed || (leb i n && reach i a n t)
+
+abbrev pub ends : Held → ℕ → ℕ → Bool
+ends r i a = mayEnd (r .closed) (r .count) (r .total) i a
 
 abbrev pub isHeard : Held → ℕ → Bool
 isHeard r k = eqb (r .mark k) 1
