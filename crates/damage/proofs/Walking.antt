@@ -2,7 +2,7 @@
 use Prim.Native.Nat.{ℕ, zero, suc, _+_, _-_, _≤_, _<_}
 use mathlib.Core.Path.{_≡_, refl, sym, ap, _∙_}
 use mathlib.Core.Logic.{⊎-elim}
-use mathlib.Core.Bool.{Bool, true, false, not, _||_, _&&_}
+use mathlib.Core.Bool.{Bool, true, false, not, _&&_}
 use native.Mathlib.Nat.{sub-zero, not-suc-le-zero}
 use native.Mathlib.Numerals.{add-one}
 use native.Mathlib.Omega.{arith}
@@ -11,7 +11,7 @@ use borrow.Author.Tests.{eq-eqb, ne-eqb, ltb-true, ltb-false}
 use Rattle.reception.specs.Sendings.{Held}
 use Rattle.reception.specs.Walk.{fits, ends, walk, isExplained}
 use Rattle.reception.specs.Damage.{placeWrong, placesWrong, walkFails}
-use Rattle.reception.proofs.Points.{either, step-heard, step-unheard}
+use Rattle.reception.proofs.Points.{either, or-true, step-heard, step-unheard}
 
 -- the loop is at place k: no place before it is wrong, and the last packet heard ends before number i, at a octets
 pub record Walking (r : Held) (k i a : ℕ) : Type 0 where
@@ -32,10 +32,6 @@ start r =
 
 one-less : (n k : ℕ) → k < n → n - k ≡ suc (n - (k + 1))
 one-less n k h = omega arith
-
-or-true : (b : Bool) → (b || true) ≡ true
-or-true true = refl
-or-true false = refl
 
 -- one wrong place is enough
 some-wrong : (r : Held) (n k : ℕ) → k < n → placeWrong (r .mark k) (r .elapsed k) (r .size k) ≡ true → placesWrong r n ≡ true

@@ -7,12 +7,13 @@ use mathlib.Core.List.{List, [], _∷_}
 use native.Mathlib.Omega.{arith}
 use lib.Dec.{eqb}
 use lib.ListN.{length, getD, take}
-use borrow.Author.Tests.{eqb-true}
+use borrow.Author.Tests.{eqb-true, eq-eqb}
 use Rattle.frame.specs.Counts.{sumOf}
 use Rattle.reception.specs.Sendings.{Held, Sending, Sent, Whole, Explains}
 use Rattle.reception.specs.Adding.{emptyRecord, packetContradicts, closingContradicts}
-use Rattle.reception.specs.OneSequence.{Part, addPart, addParts, came, closingCame, holding, Same, PartOf, PartsOf}
+use Rattle.reception.specs.OneSequence.{Part, addPart, addParts, came, closingCame, holding, Same, PartsOf}
 use Rattle.reception.specs.OneSequence.Part.{Packet, Closing}
+use Rattle.reception.proofs.Points.{or-true}
 use Rattle.reception.proofs.ContradictsExactly.{explains-added, explains-closed, agreeing-packet, agreeing-closing}
 
 -- a packet of s, and the whole of s
@@ -31,15 +32,14 @@ explains-empty c s h =
       closing = λ t. absurd (false≢true t);
     }
 
-explains-part : (r : Held) (s : List ℕ) (p : Part) → Explains r s → PartOf s p → Explains (addPart r s p) s
-explains-part r s (Packet k) h q = explains-added r k _ _ s h (sent-at s k q)
-explains-part r s Closing h q = explains-closed r _ _ s h (whole-of s)
-
 -- the sending explains whatever was heard of it
 pub explains-parts : (r : Held) (s : List ℕ) (ps : List Part) → Explains r s → PartsOf s ps → Explains (addParts r s ps) s
-unfolding addParts PartsOf
+unfolding addParts came
 explains-parts r s [] h q = h
-explains-parts r s (p ∷ ps) h q = explains-parts (addPart r s p) s ps (explains-part r s p h (q .0)) (q .1)
+explains-parts r s (Packet k ∷ ps) h q =
+    explains-parts (addPart r s (Packet k)) s ps (explains-added r k _ _ s h (sent-at s k (q k (rw (eq-eqb k k refl)))))
+    (λ j c. q j (rw c (or-true (eqb j k))))
+explains-parts r s (Closing ∷ ps) h q = explains-parts (addPart r s Closing) s ps (explains-closed r _ _ s h (whole-of s)) q
 
 keeps-capacity : (r : Held) (s : List ℕ) (ps : List Part) → addParts r s ps .capacity ≡ r .capacity
 unfolding addParts

@@ -25,6 +25,10 @@ both false b h = absurd (false≢true h)
 pub and-yes : {a b : Bool} → a ≡ true → b ≡ true → (a && b) ≡ true
 and-yes p q = rw (p, q)
 
+pub or-true : (b : Bool) → (b || true) ≡ true
+or-true true = refl
+or-true false = refl
+
 -- there can be b octets before packet j where a are before packet i
 abbrev pub Within : ℕ → ℕ → ℕ → ℕ → Type 0
 Within i a j b = (a ≤ b) × (b + mostPayload * i ≤ a + mostPayload * j)

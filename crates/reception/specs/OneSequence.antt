@@ -1,6 +1,6 @@
 -- What a record holds of one sending, and the hearing of parts of it one after another (document 01, "If an empty record hears only
 -- frames of one sequence"). Assumes nothing.
-use Prim.Native.Nat.{ℕ, _<_, _≤_}
+use Prim.Native.Nat.{ℕ, _<_}
 use mathlib.Core.Path.{_≡_}
 use mathlib.Core.Bool.{Bool, true, false, cond, _||_}
 use mathlib.Core.List.{List, [], _∷_}
@@ -65,12 +65,6 @@ pub record Same (a b : Held) : Type 0 where
   pub counts : a .count ≡ b .count
   pub totals : a .total ≡ b .total
 
--- a part of the sending s
-abbrev pub PartOf : List ℕ → Part → Type 0
-PartOf s (Packet k) = k < length s
-PartOf s Closing = 0 ≤ length s
-
--- every one of some parts is
-unfoldable pub PartsOf : List ℕ → List Part → Type 0
-PartsOf s [] = 0 ≤ length s
-PartsOf s (p ∷ ps) = PartOf s p × PartsOf s ps
+-- every packet that came is one of s
+abbrev pub PartsOf : List ℕ → List Part → Type 0
+PartsOf s ps = (k : ℕ) → came k ps ≡ true → k < length s
