@@ -9,13 +9,13 @@ use units::limits::LAST_STAMP;
 use units::limits::MOST_PAYLOAD;
 
 // Octets as the places of a record hold them, with the bounds that a sum of them needs.
-fn from_u32(x: u32) -> u64
+pub fn from_u32(x: u32) -> u64
     ensures { λ r. ⌜ (r ≡ x) × (r < 4294967296) ⌝ }
 {
     x as u64
 }
 
-fn from_u16(x: u16) -> u64
+pub fn from_u16(x: u16) -> u64
     ensures { λ r. ⌜ (r ≡ x) × (r < 65536) ⌝ }
 {
     x as u64

@@ -13,11 +13,11 @@ use Rattle.reception.specs.Neighbours.{endTo, octetsTo, nextFits}
 use Rattle.reception.proofs.Points.{either, both, step-heard, step-unheard}
 
 -- the walk's state after each place
-end-heard : (r : Held) (n : ℕ) → isHeard r n ≡ true → (endTo r (suc n) ≡ suc n) × (octetsTo r (suc n) ≡ r .elapsed n + r .size n)
+pub end-heard : (r : Held) (n : ℕ) → isHeard r n ≡ true → (endTo r (suc n) ≡ suc n) × (octetsTo r (suc n) ≡ r .elapsed n + r .size n)
 unfolding endTo octetsTo
 end-heard r n t = (rw t, rw t)
 
-end-unheard : (r : Held) (n : ℕ) → isHeard r n ≡ false → (endTo r (suc n) ≡ endTo r n) × (octetsTo r (suc n) ≡ octetsTo r n)
+pub end-unheard : (r : Held) (n : ℕ) → isHeard r n ≡ false → (endTo r (suc n) ≡ endTo r n) × (octetsTo r (suc n) ≡ octetsTo r n)
 unfolding endTo octetsTo
 end-unheard r n t = (rw t, rw t)
 

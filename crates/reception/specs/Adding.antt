@@ -2,6 +2,7 @@
 use Prim.Native.Nat.{ℕ}
 use mathlib.Core.Bool.{Bool, true, false, cond, not, _&&_}
 use lib.Dec.{eqb}
+use Rattle.reception.specs.declared.Head.{Head}
 use Rattle.reception.specs.Sendings.{Held}
 use Rattle.reception.specs.Walk.{isHeard, isExplained}
 
@@ -33,6 +34,18 @@ withClosing r n t =
       closed = true;
       count = n;
       total = t;
+    }
+
+-- a head with that closing
+abbrev pub closedHead : Head → ℕ → ℕ → Head
+closedHead h n t =
+    record {
+      bearer = h .bearer;
+      period = h .period;
+      stamp = h .stamp;
+      closed = true;
+      count = record { 0 = n };
+      total = record { 0 = t };
     }
 
 -- a pair of numbers is another one

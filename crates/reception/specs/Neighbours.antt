@@ -2,7 +2,10 @@
 -- says that no other place has to be looked at). Assumes nothing.
 use Prim.Native.Nat.{ℕ, zero, suc, _+_}
 use mathlib.Core.Bool.{Bool, cond}
-use Rattle.reception.specs.Sendings.{Held}
+use mathlib.Core.Path.{_≡_}
+use mathlib.Core.List.{List}
+use Rattle.reception.specs.declared.Head.{Head}
+use Rattle.reception.specs.Sendings.{Held, heldIn}
 use Rattle.reception.specs.Walk.{fits, ends, isHeard}
 
 -- the number after the last packet heard below n, 0 where none was
@@ -19,3 +22,8 @@ octetsTo r (suc n) = cond (isHeard r n) (r .elapsed n + r .size n) (octetsTo r n
 unfoldable pub nextFits : Held → ℕ → ℕ → ℕ → ℕ → Bool
 nextFits r zero k i a = ends r i a
 nextFits r (suc n) k i a = cond (isHeard r k) (fits i a k (r .elapsed k) (r .size k)) (nextFits r n (suc k) i a)
+
+-- i and a say where the last packet heard below k ends, in a record of these lists and whatever head
+pub record EndBelow (marks elapsed sizes : List ℕ) (k i a : ℕ) : Type 0 where
+  pub number-is : (h : Head) → i ≡ endTo (heldIn h marks elapsed sizes) k
+  pub octets-are : (h : Head) → a ≡ octetsTo (heldIn h marks elapsed sizes) k

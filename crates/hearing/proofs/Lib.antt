@@ -1,0 +1,2 @@
+pub mod Contradicting
+pub mod Looking
