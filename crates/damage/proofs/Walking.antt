@@ -11,7 +11,9 @@ use borrow.Author.Tests.{eq-eqb, ne-eqb, ltb-true, ltb-false}
 use Rattle.reception.specs.Sendings.{Held}
 use Rattle.reception.specs.Walk.{fits, ends, walk, isExplained}
 use Rattle.reception.specs.Damage.{placeWrong, placesWrong, walkFails}
-use Rattle.reception.proofs.Points.{either, or-true, step-heard, step-unheard}
+use Rattle.reception.proofs.Points.{step-heard, step-unheard}
+use Rattle.fields.proofs.Counting.{one-less}
+use Rattle.fields.proofs.Tests.{either, or-true}
 
 -- the loop is at place k: no place before it is wrong, and the last packet heard ends before number i, at a octets
 pub record Walking (r : Held) (k i a : ℕ) : Type 0 where
@@ -29,9 +31,6 @@ start r =
       clean = refl;
       same = ap (λ (n : ℕ). walk r n 0 0 0) (sym (sub-zero (r .capacity)));
     }
-
-one-less : (n k : ℕ) → k < n → n - k ≡ suc (n - (k + 1))
-one-less n k h = omega arith
 
 -- one wrong place is enough
 some-wrong : (r : Held) (n k : ℕ) → k < n → placeWrong (r .mark k) (r .elapsed k) (r .size k) ≡ true → placesWrong r n ≡ true

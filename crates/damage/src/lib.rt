@@ -3,7 +3,7 @@ ghost use mathlib.Core.Path.{_≡_};
 ghost use Prim.Native.Nat.{_≤_, _<_};
 ghost use Rattle.reception.specs.Sendings.{heldIn};
 ghost use Rattle.reception.specs.Walk.{reach, fits, mayEnd};
-ghost use Rattle.reception.specs.Damage.{Listed, placeWrong, closingOff, walkFails, damagedRecord};
+ghost use Rattle.reception.specs.Damage.{Matched, placeWrong, closingOff, walkFails, damagedRecord};
 use reception::Head;
 use units::limits::LAST_STAMP;
 use units::limits::MOST_PAYLOAD;
@@ -75,7 +75,7 @@ fn place_wrong(m: u8, e: u32, l: u16) -> bool
 
 // Whether a place is wrong, or no sending explains the record.
 fn walk_fails(h: Head, marks: &[u8], elapsed: &[u32], sizes: &[u16]) -> bool
-    requires { ⌜ Listed (now marks) (now elapsed) (now sizes) ⌝ }
+    requires { ⌜ Matched (now marks) (now elapsed) (now sizes) ⌝ }
     ensures { λ r. ⌜ r ≡ walkFails (heldIn h (now (marks .entry)) (now (elapsed .entry)) (now (sizes .entry))) ⌝ }
 {
     let mut i: u64 = 0;
@@ -118,7 +118,7 @@ fn closing_off(h: Head, capacity: usize) -> bool
 
 // Whether the record is damaged.
 pub fn is_damaged(h: Head, marks: &[u8], elapsed: &[u32], sizes: &[u16]) -> bool
-    requires { ⌜ Listed (now marks) (now elapsed) (now sizes) ⌝ }
+    requires { ⌜ Matched (now marks) (now elapsed) (now sizes) ⌝ }
     ensures { λ r. ⌜ r ≡ damagedRecord (h .stamp) (heldIn h (now (marks .entry)) (now (elapsed .entry)) (now (sizes .entry))) ⌝ }
 {
     if LAST_STAMP < h.stamp as u64 {

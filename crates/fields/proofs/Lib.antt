@@ -1,3 +1,5 @@
 pub mod Choosing
+pub mod Counting
 pub mod Laying
 pub mod ReadAgain
+pub mod Tests

@@ -14,7 +14,7 @@ use Rattle.frame.specs.declared.ClosingPdu.{ClosingPdu}
 use Rattle.frame.specs.Layout.{filled}
 use Rattle.frame.specs.Counts.{closingWrong, tooWide, givenWrong, anyAbove, sumOf, listWrong}
 use Rattle.frame.specs.Writing.{packed}
-use Rattle.frame.proofs.Said.{or-false}
+use Rattle.fields.proofs.Tests.{or-false}
 
 -- each count fits its field, and none is impossible
 pub record Fits (c : ClosingPdu) : Type 0 where

@@ -9,6 +9,7 @@ use lib.Dec.{ltb, leb, eqb}
 use borrow.Author.Tests.{ltb-false, leb-false, eqb-true, not-false}
 use Rattle.units.specs.Limits.{mostPayload, mostInSequence, lastStamp}
 use Rattle.fields.proofs.ReadAgain.{be-lt}
+use Rattle.fields.proofs.Tests.{or-false}
 use Rattle.frame.specs.declared.Read.the-variants.{Closing, Data, ClosingWithLengths}
 use Rattle.frame.specs.declared.DataPdu.{DataPdu}
 use Rattle.frame.specs.declared.ClosingPdu.{ClosingPdu}
@@ -16,10 +17,6 @@ use Rattle.frame.specs.Layout.{numberOf, elapsedOf, payloadLength, fille
 use Rattle.frame.specs.Counts.{dataWrong, closingWrong, lengthsWrong}
 use Rattle.frame.specs.Reading.{readFrame, lengthWrong}
 use Rattle.frame.proofs.Accepted.{read-data, read-closing, read-with-lengths}
-
-pub or-false : (a b : Bool) → (a || b) ≡ false → (a ≡ false) × (b ≡ false)
-or-false true b e = absurd (true≢false e)
-or-false false b e = (refl, e)
 
 -- counts that are possible, of a data PDU
 pub data-right : (n e : ℕ) → dataWrong n e ≡ false → (n < mostInSequence) × (e ≤ mostPayload * n)

@@ -8,6 +8,10 @@ use Rattle.units.specs.Limits.{mostPayload, mostInSequence}
 use Rattle.frame.specs.declared.ClosingPdu.{ClosingPdu}
 use Rattle.frame.specs.Layout.{sumLengths}
 
+-- two counts of which one is not zero
+unfoldable pub someOf : ℕ → ℕ → Bool
+someOf a b = not (eqb a 0) || not (eqb b 0)
+
 -- "Type 1 with number 65,535; elapsed octets above 4,095 x Packet Number"
 unfoldable pub dataWrong : ℕ → ℕ → Bool
 dataWrong n e = leb mostInSequence n || ltb (mostPayload * n) e

@@ -10,7 +10,7 @@ use Rattle.reception.specs.Sendings.{Held}
 use Rattle.reception.specs.Walk.{fits, mayEnd, isHeard, isExplained}
 use Rattle.reception.specs.Adding.{withClosing, differ, packetContradicts, closingContradicts}
 use Rattle.reception.specs.Neighbours.{endTo, octetsTo, nextFits}
-use Rattle.reception.proofs.Points.{either}
+use Rattle.fields.proofs.Tests.{either}
 use Rattle.reception.proofs.NeighboursDecide.{packet-decided, closing-decided, end-heard, end-unheard}
 
 -- packets end not past the number looked from

@@ -7,6 +7,7 @@ use native.Mathlib.Numerals.{add-one}
 use native.Mathlib.Omega.{arith}
 use lib.ListN.{length, getD}
 use borrow.Author.Tests.{eq-eqb, ne-eqb}
+use Rattle.fields.proofs.Counting.{one-less}
 use Rattle.reception.specs.declared.Head.{Head}
 use Rattle.reception.specs.Sendings.{Held, heldIn}
 use Rattle.reception.specs.Walk.{fits, ends}
@@ -63,16 +64,13 @@ up-start r k i a le h = record { here = le; after = h; same = refl }
 
 module _ (r : Held) (k i a j : ℕ) (u : Up r k i a j) where
   module _ (lt : j < r .capacity) where
-    one-less : r .capacity - j ≡ suc (r .capacity - (j + 1))
-    one-less = omega arith
-
     pub up-found : r .mark j ≡ 1 → (e l : ℕ) → e ≡ r .elapsed j → l ≡ r .size j → (b : Bool) → b ≡ fits i a j e l → b ≡ nextFits r (r .capacity - k) k i a
     unfolding nextFits
-    up-found t e l el ll b fit = fit ∙ rw (el, ll) (sym (u .same ∙ rw (one-less, eq-eqb _ _ t)))
+    up-found t e l el ll b fit = fit ∙ rw (el, ll) (sym (u .same ∙ rw (one-less (r .capacity) j lt, eq-eqb _ _ t)))
 
     pub up-on : (r .mark j ≡ 1 → ⊥) → Up r k i a (j + 1)
     unfolding nextFits
-    up-on t = record { here = omega arith; after = omega (arith, u .after); same = u .same ∙ rw (one-less, ne-eqb _ _ t, add-one j) }
+    up-on t = record { here = omega arith; after = omega (arith, u .after); same = u .same ∙ rw (one-less (r .capacity) j lt, ne-eqb _ _ t, add-one j) }
 
   pub up-none : r .capacity ≤ j → (b : Bool) → b ≡ ends r i a → b ≡ nextFits r (r .capacity - k) k i a
   unfolding nextFits

@@ -5,7 +5,7 @@ ghost use Prim.Native.Nat.{_+_, _-_, _≤_, _<_};
 ghost use lib.ListN.{length};
 ghost use Rattle.reception.specs.Sendings.{heldIn};
 ghost use Rattle.reception.specs.Walk.{isExplained};
-ghost use Rattle.reception.specs.Damage.{Listed};
+ghost use Rattle.reception.specs.Damage.{Matched};
 ghost use Rattle.reception.specs.Adding.{differ, packetContradicts, closedHead, closingContradicts};
 ghost use Rattle.reception.specs.Neighbours.{EndBelow, nextFits};
 use damage::from_u16;
@@ -24,7 +24,7 @@ struct End {
 
 // The end of the last packet heard below k.
 fn end_below(marks: &[u8], elapsed: &[u32], sizes: &[u16], k: usize) -> End
-    requires { ⌜ Listed (now marks) (now elapsed) (now sizes) ⌝ }
+    requires { ⌜ Matched (now marks) (now elapsed) (now sizes) ⌝ }
     requires { ⌜ k ≤ length (now marks) ⌝ }
     ensures { λ r. ⌜ EndBelow (now (marks .entry)) (now (elapsed .entry)) (now (sizes .entry)) k (r .number) (r .octets) ⌝ }
 {
@@ -56,7 +56,7 @@ fn next_fits(
     i: u64,
     a: u64,
 ) -> bool
-    requires { ⌜ Listed (now marks) (now elapsed) (now sizes) ⌝ }
+    requires { ⌜ Matched (now marks) (now elapsed) (now sizes) ⌝ }
     requires { ⌜ (k ≤ length (now marks)) × (i ≤ k) ⌝ }
     ensures { λ r. ⌜ r ≡ nextFits (heldIn h (now (marks .entry)) (now (elapsed .entry)) (now (sizes .entry))) (length (now (marks .entry)) - k) k i a ⌝ }
 {
@@ -90,7 +90,7 @@ pub fn packet_contradicts(
     e: u64,
     l: u64,
 ) -> bool
-    requires { ⌜ Listed (now marks) (now elapsed) (now sizes) ⌝ }
+    requires { ⌜ Matched (now marks) (now elapsed) (now sizes) ⌝ }
     requires { ⌜ isExplained (heldIn h (now marks) (now elapsed) (now sizes)) ≡ true ⌝ }
     requires { ⌜ (k < length (now marks)) × (e < 4294967296) × (l < 4294967296) ⌝ }
     ensures { λ r. ⌜ r ≡ packetContradicts (heldIn h (now (marks .entry)) (now (elapsed .entry)) (now (sizes .entry))) k e l ⌝ }
@@ -128,7 +128,7 @@ pub fn closing_contradicts(
     n: Packets,
     t: Octets,
 ) -> bool
-    requires { ⌜ Listed (now marks) (now elapsed) (now sizes) ⌝ }
+    requires { ⌜ Matched (now marks) (now elapsed) (now sizes) ⌝ }
     requires { ⌜ isExplained (heldIn h (now marks) (now elapsed) (now sizes)) ≡ true ⌝ }
     ensures { λ r. ⌜ r ≡ closingContradicts (heldIn h (now (marks .entry)) (now (elapsed .entry)) (now (sizes .entry))) (n .0) (t .0) ⌝ }
 {

@@ -13,7 +13,7 @@ use Rattle.reception.specs.Sendings.{Held, Sending, Sent, Whole, Explain
 use Rattle.reception.specs.Adding.{emptyRecord, packetContradicts, closingContradicts}
 use Rattle.reception.specs.OneSequence.{Part, addPart, addParts, came, closingCame, holding, Same, PartsOf}
 use Rattle.reception.specs.OneSequence.Part.{Packet, Closing}
-use Rattle.reception.proofs.Points.{or-true}
+use Rattle.fields.proofs.Tests.{or-true}
 use Rattle.reception.proofs.ContradictsExactly.{explains-added, explains-closed, agreeing-packet, agreeing-closing}
 
 -- a packet of s, and the whole of s

@@ -12,7 +12,8 @@ use Rattle.frame.specs.Counts.{sumOf}
 use Rattle.reception.specs.Sendings.{Held, Sending, Sent, Explains}
 use Rattle.reception.specs.Adding.{emptyRecord, withPacket, packetContradicts}
 use Rattle.reception.proofs.SumsBefore.{before, before-start, before-next, climb}
-use Rattle.reception.proofs.Points.{either, all-short}
+use Rattle.reception.proofs.Points.{all-short}
+use Rattle.fields.proofs.Tests.{either}
 use Rattle.reception.proofs.ContradictsExactly.{explains-added, added-explains, agreeing-packet, packet-agrees}
 use Rattle.reception.proofs.AnyOrder.{explains-empty}
 

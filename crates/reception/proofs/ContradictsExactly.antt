@@ -10,7 +10,7 @@ use Rattle.units.specs.Limits.{mostInSequence}
 use Rattle.reception.specs.Sendings.{Held, Heard, Sent, Whole, Explains, Explained}
 use Rattle.reception.specs.Walk.{isHeard, isExplained}
 use Rattle.reception.specs.Adding.{withPacket, withClosing, differ, packetContradicts, closingContradicts}
-use Rattle.reception.proofs.Points.{either, both}
+use Rattle.fields.proofs.Tests.{either, both}
 use Rattle.reception.proofs.Decided.{Sized, walk-explained, explained-walk}
 
 -- equal pairs do not differ

@@ -8,22 +8,22 @@ use native.Mathlib.Nat.{not-suc-le-zero}
 use lib.Dec.{ltb, eqb}
 use borrow.Author.Tests.{ltb-false, le-ltb, eqb-true, not-false}
 use Rattle.units.specs.Limits.{lastStamp, mostCapacity}
-use Rattle.frame.proofs.Said.{or-false}
+use Rattle.fields.proofs.Tests.{or-false, or-no}
 use Rattle.reception.specs.Sendings.{Held}
 use Rattle.reception.specs.Walk.{isExplained}
-use Rattle.reception.specs.Damage.{Undamaged, notBothZero, placeWrong, placesWrong, closingOff, walkFails, damagedRecord}
-use Rattle.reception.proofs.Points.{either}
+use Rattle.frame.specs.Counts.{someOf}
+use Rattle.reception.specs.Damage.{Undamaged, placeWrong, placesWrong, closingOff, walkFails, damagedRecord}
+use Rattle.fields.proofs.Tests.{either}
 use Rattle.reception.proofs.Decided.{Sized, up-to, walk-explained, explained-walk}
 
-or-no : {a b : Bool} → a ≡ false → b ≡ false → (a || b) ≡ false
-or-no p q = rw (p, q)
-
-both-zero : (a b : ℕ) → notBothZero a b ≡ false → (a ≡ 0) × (b ≡ 0)
+both-zero : (a b : ℕ) → someOf a b ≡ false → (a ≡ 0) × (b ≡ 0)
+unfolding someOf
 both-zero a b h =
     let p = or-false (not (eqb a 0)) (not (eqb b 0)) h in
     (eqb-true a 0 (not-false _ (p .0)), eqb-true b 0 (not-false _ (p .1)))
 
-zeros : (a b : ℕ) → (a ≡ 0) × (b ≡ 0) → notBothZero a b ≡ false
+zeros : (a b : ℕ) → (a ≡ 0) × (b ≡ 0) → someOf a b ≡ false
+unfolding someOf
 zeros a b h = rw (h .0, h .1)
 
 -- what document 01 asks of one place
@@ -40,14 +40,14 @@ place-clean m e l h = ⊎-elim heard unheard (either (eqb m 1))
 
     unheard : eqb m 1 ≡ false → Clean m e l
     unheard t =
-        let q : (not (eqb m 0) || notBothZero e l) ≡ false = rw t at h in
-        let p = or-false (not (eqb m 0)) (notBothZero e l) q in
+        let q : (not (eqb m 0) || someOf e l) ≡ false = rw t at h in
+        let p = or-false (not (eqb m 0)) (someOf e l) q in
         record { marked = inr (eqb-true m 0 (not-false _ (p .0))); empty = λ _. both-zero e l (p .1) }
 
 clean-place : (m e l : ℕ) → Clean m e l → placeWrong m e l ≡ false
 unfolding placeWrong
 clean-place m e l c =
-    ⊎-elim (λ (t : m ≡ 1). rw t) (λ (t : m ≡ 0). let z = c .empty t in rw (t, z .0, z .1)) (c .marked)
+    ⊎-elim (λ (t : m ≡ 1). rw t) (λ (t : m ≡ 0). let z = c .empty t in rw t (zeros e l z)) (c .marked)
 
 places-clean : (r : Held) (n : ℕ) → placesWrong r n ≡ false → (k : ℕ) → k < n → Clean (r .mark k) (r .elapsed k) (r .size k)
 unfolding placesWrong
@@ -65,14 +65,14 @@ clean-places r (suc n) f = or-no (clean-places r n (λ k lt. f k (omega arith)))
 closing-on : (r : Held) → closingOff (r .closed) (r .count) (r .total) (r .capacity) ≡ false → (r .count ≤ r .capacity) × (r .closed ≡ false → (r .count ≡ 0) × (r .total ≡ 0))
 unfolding closingOff
 closing-on r h =
-    let p = or-false (ltb (r .capacity) (r .count)) (not (r .closed) && notBothZero (r .count) (r .total)) h in
+    let p = or-false (ltb (r .capacity) (r .count)) (not (r .closed) && someOf (r .count) (r .total)) h in
     (ltb-false _ _ (p .0), λ f. both-zero _ _ (rw f at (p .1)))
 
 on-closing : (r : Held) → r .count ≤ r .capacity → (r .closed ≡ false → (r .count ≡ 0) × (r .total ≡ 0)) → closingOff (r .closed) (r .count) (r .total) (r .capacity) ≡ false
 unfolding closingOff
 on-closing r le z = or-no (le-ltb _ _ le) (go (r .closed) refl)
   where
-    go : (b : Bool) → r .closed ≡ b → (not b && notBothZero (r .count) (r .total)) ≡ false
+    go : (b : Bool) → r .closed ≡ b → (not b && someOf (r .count) (r .total)) ≡ false
     go true t = refl
     go false t = zeros _ _ (z t)
 

@@ -15,7 +15,8 @@ use Rattle.frame.specs.Counts.{sumOf}
 use Rattle.reception.specs.Sendings.{Held, Heard, Sent, Explains, Explained}
 use Rattle.reception.specs.Walk.{reach, fits, ends, mayEnd, isHeard, walk, isExplained}
 use Rattle.reception.proofs.SumsBefore.{Short, sum-append, short-append, spread, length-spread, sum-spread, short-spread}
-use Rattle.reception.proofs.Points.{either, both, reach-says, explains-pairs, pairs-walk, step-heard, step-unheard}
+use Rattle.reception.proofs.Points.{reach-says, explains-pairs, pairs-walk, step-heard, step-unheard}
+use Rattle.fields.proofs.Tests.{either, both}
 
 -- what holds below k, and at k, holds below k + 1
 pub up-to : (P : ℕ → Type 0) (k : ℕ) → ((j : ℕ) → j < k → P j) → P k → (j : ℕ) → j < suc k → P j

@@ -10,7 +10,8 @@ use Rattle.reception.specs.Sendings.{Held}
 use Rattle.reception.specs.Walk.{fits, ends, isHeard, walk, isExplained}
 use Rattle.reception.specs.Adding.{withPacket, withClosing}
 use Rattle.reception.specs.Neighbours.{endTo, octetsTo, nextFits}
-use Rattle.reception.proofs.Points.{either, both, step-heard, step-unheard}
+use Rattle.reception.proofs.Points.{step-heard, step-unheard}
+use Rattle.fields.proofs.Tests.{either, both, and-true}
 
 -- the walk's state after each place
 pub end-heard : (r : Held) (n : ℕ) → isHeard r n ≡ true → (endTo r (suc n) ≡ suc n) × (octetsTo r (suc n) ≡ r .elapsed n + r .size n)
@@ -33,10 +34,6 @@ walk-at r h (suc k) n e =
     rw (p .0, p .1) (both (fits _ _ k (r .elapsed k) (r .size k)) (walk r n (suc k) (suc k) (r .elapsed k + r .size k)) (sym (step-heard r n k _ _ t) ∙ w) .1))
     (λ (t : isHeard r k ≡ false). let p = end-unheard r k t in rw (p .0, p .1) (sym (step-unheard r n k _ _ t) ∙ w))
     (either (isHeard r k))
-
-and-true : (b : Bool) → (b && true) ≡ b
-and-true true = refl
-and-true false = refl
 
 -- a walk from any state on: the first packet heard decides
 heard-decides : (r : Held) → isExplained r ≡ true → (n k i a : ℕ) → suc k + n ≡ r .capacity → isHeard r k ≡ true

@@ -10,24 +10,10 @@ use lib.Dec.{leb, ltb}
 use lib.ListN.{length, List·getD-eq-default}
 use borrow.Author.Tests.{le-leb, lt-leb, leb-true, leb-false, ltb-true, ltb-false, eqb-true}
 use Rattle.units.specs.Limits.{mostPayload}
+use Rattle.fields.proofs.Tests.{either, both, and-yes, or-true}
 use Rattle.reception.specs.Sendings.{Held, Heard, Sending, Explains}
 use Rattle.reception.specs.Walk.{reach, fits, ends, mayEnd, isHeard, walk, isExplained}
 use Rattle.reception.proofs.SumsBefore.{Short, before, before-start, before-next, before-end, climb}
-
-pub either : (b : Bool) → (b ≡ true) ⊎ (b ≡ false)
-either true = inl refl
-either false = inr refl
-
-pub both : (a b : Bool) → (a && b) ≡ true → (a ≡ true) × (b ≡ true)
-both true b h = (refl, h)
-both false b h = absurd (false≢true h)
-
-pub and-yes : {a b : Bool} → a ≡ true → b ≡ true → (a && b) ≡ true
-and-yes p q = rw (p, q)
-
-pub or-true : (b : Bool) → (b || true) ≡ true
-or-true true = refl
-or-true false = refl
 
 -- there can be b octets before packet j where a are before packet i
 abbrev pub Within : ℕ → ℕ → ℕ → ℕ → Type 0

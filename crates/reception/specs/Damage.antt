@@ -8,6 +8,7 @@ use mathlib.Core.List.{List}
 use lib.ListN.{length}
 use lib.Dec.{ltb, eqb}
 use Rattle.units.specs.Limits.{lastStamp, mostCapacity}
+use Rattle.frame.specs.Counts.{someOf}
 use Rattle.reception.specs.Sendings.{Held, Explained}
 use Rattle.reception.specs.Walk.{isExplained}
 
@@ -22,18 +23,14 @@ pub record Undamaged (stamp : ℕ) (r : Held) : Type 0 where
   pub explained : Explained r
 
 -- three lists of one length, of document 01's capacity; refusal 14 says that they are not
-pub record Listed (marks elapsed sizes : List ℕ) : Type 0 where
+pub record Matched (marks elapsed sizes : List ℕ) : Type 0 where
   pub room : length marks ≤ mostCapacity
   pub elapseds : length elapsed ≡ length marks
   pub lengths : length sizes ≡ length marks
 
--- two numbers of which one is not zero
-abbrev pub notBothZero : ℕ → ℕ → Bool
-notBothZero a b = not (eqb a 0) || not (eqb b 0)
-
 -- a place with another mark, or unheard and not zero
 unfoldable pub placeWrong : ℕ → ℕ → ℕ → Bool
-placeWrong m e l = not (eqb m 1) && (not (eqb m 0) || notBothZero e l)
+placeWrong m e l = not (eqb m 1) && (not (eqb m 0) || someOf e l)
 
 -- one of the first n places is wrong
 unfoldable pub placesWrong : Held → ℕ → Bool
@@ -42,7 +39,7 @@ placesWrong r (suc n) = placesWrong r n || placeWrong (r .mark n) (r .elapsed n)
 
 -- a closing's N above capacity, or a closing that was not heard and is not zero
 unfoldable pub closingOff : Bool → ℕ → ℕ → ℕ → Bool
-closingOff closed n t capacity = ltb capacity n || (not closed && notBothZero n t)
+closingOff closed n t capacity = ltb capacity n || (not closed && someOf n t)
 
 -- a place is wrong, or no sending explains the record: both are seen in one walk
 unfoldable pub walkFails : Held → Bool

@@ -10,7 +10,7 @@ use native.Mathlib.Omega.{arith}
 use lib.ListN.{length}
 use lib.Dec.{eqb}
 use borrow.Author.Tests.{le-ltb, lt-leb, eqb-true, not-false}
-use Rattle.frame.proofs.Said.{or-false}
+use Rattle.fields.proofs.Tests.{or-false}
 use Rattle.units.specs.Limits.{mostPayload, mostInSequence, mostPeriodPackets}
 use Rattle.frame.specs.declared.Written.the-variants.{Done}
 use Rattle.frame.specs.Writing.{dataFrame}
@@ -18,7 +18,8 @@ use Rattle.sender.specs.declared.Phase.{Phase}
 use Rattle.sender.specs.declared.Phase.the-variants.{Fresh, Open, Closed}
 use Rattle.sender.specs.declared.Sender.{Sender}
 use Rattle.sender.specs.declared.Sending.{Sending}
-use Rattle.sender.specs.State.{damaged, isOpen, restWrong, someOf, closingBy}
+use Rattle.sender.specs.State.{damaged, isOpen, restWrong, closingBy}
+use Rattle.frame.specs.Counts.{someOf}
 use Rattle.sender.specs.Calls.{advanced, begins, dataCall}
 use Rattle.sender.specs.Sequence.{dataFrames, countOf, octetsOf, closingAfter, carried, afterData, framesBy}
 use Rattle.sender.proofs.StaysUndamaged.{data-undamaged}

@@ -16,7 +16,8 @@ use Rattle.frame.proofs.Said.{Possible}
 use Rattle.sender.specs.declared.Sender.{Sender}
 use Rattle.sender.specs.declared.Sending.{Sending}
 use Rattle.sender.specs.declared.Turning.{Turning}
-use Rattle.sender.specs.State.{damaged, isOpen, notLater, restWrong, someOf, freshSender, closingBy}
+use Rattle.sender.specs.State.{damaged, isOpen, notLater, restWrong, freshSender, closingBy}
+use Rattle.frame.specs.Counts.{someOf}
 use Rattle.sender.specs.Calls.{stays, keeps, begins, advanced, closedSender, openCall, renewCall, dataCall, closeCall, closeWithCall}
 use Rattle.sender.proofs.Undamaged.{Undamaged, undamaged, few-octets}
 

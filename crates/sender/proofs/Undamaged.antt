@@ -7,7 +7,8 @@ use lib.Dec.{ltb}
 use borrow.Author.Tests.{ltb-false}
 use Rattle.units.specs.Limits.{lastStamp, mostPayload, mostInSequence, mostPeriodPackets}
 use Rattle.frame.specs.Counts.{closingWrong}
-use Rattle.frame.proofs.Said.{Possible, or-false, closing-right}
+use Rattle.frame.proofs.Said.{Possible, closing-right}
+use Rattle.fields.proofs.Tests.{or-false}
 use Rattle.sender.specs.declared.Sender.{Sender}
 use Rattle.sender.specs.State.{damaged, restWrong, closingBy}
 

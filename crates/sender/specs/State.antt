@@ -4,7 +4,7 @@ use mathlib.Core.Bool.{Bool, true, false, not, _||_}
 use lib.Dec.{ltb, leb, eqb}
 use Rattle.units.specs.Limits.{lastStamp, mostInSequence, mostPeriodPackets}
 use Rattle.frame.specs.declared.ClosingPdu.{ClosingPdu}
-use Rattle.frame.specs.Counts.{closingWrong}
+use Rattle.frame.specs.Counts.{someOf, closingWrong}
 use Rattle.sender.specs.declared.Phase.{Phase}
 use Rattle.sender.specs.declared.Phase.the-variants.{Fresh, Open, Closed}
 use Rattle.sender.specs.declared.Sender.{Sender}
@@ -14,10 +14,6 @@ abbrev pub isOpen : Phase → Bool
 isOpen Fresh = false
 isOpen Open = true
 isOpen Closed = false
-
--- two counts of which one is not zero
-unfoldable pub someOf : ℕ → ℕ → Bool
-someOf n e = not (eqb n 0) || not (eqb e 0)
 
 -- "when closed, number or elapsed not zero; when fresh, anything not zero"
 abbrev pub restWrong : Phase → Sender → Bool

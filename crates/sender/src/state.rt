@@ -14,7 +14,8 @@ use units::limits::MOST_IN_SEQUENCE;
 use units::limits::MOST_PERIOD_PACKETS;
 ghost use mathlib.Core.Path.{_≡_};
 ghost use Prim.Native.Nat.{_^_, _<_};
-ghost use Rattle.sender.specs.State.{damaged, restWrong, someOf, isOpen, notLater, freshSender, closingBy};
+ghost use Rattle.frame.specs.Counts.{someOf};
+ghost use Rattle.sender.specs.State.{damaged, restWrong, isOpen, notLater, freshSender, closingBy};
 ghost use Rattle.sender.specs.Calls.{advanced, begins, closedSender, keeps, stays};
 
 pub fn fresh() -> Sender

@@ -2,7 +2,7 @@
 use borrow.Author.Tests.{eq-eqb, ne-eqb}
 use mathlib.Core.Path.{_≡_, sym, _∙_}
 use mathlib.Core.Bool.{true, false}
-use Rattle.sender.specs.State.{someOf}
+use Rattle.frame.specs.Counts.{someOf}
 use borrow.Author.Needs.{needs}
 use Rattle.sender.proofs.state.rest_wrong.Statement.{statement}
 use Rattle.sender.proofs.state.rest_wrong.Tie as tie

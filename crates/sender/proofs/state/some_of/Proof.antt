@@ -1,6 +1,6 @@
 -- `sender::state::some_of` meets its contract. Assumes nothing.
 use borrow.Author.Tests.{eq-eqb, ne-eqb}
-use Rattle.sender.specs.State.{someOf}
+use Rattle.frame.specs.Counts.{someOf}
 use Rattle.sender.proofs.state.some_of.Statement.{statement}
 use Rattle.sender.proofs.state.some_of.Tie as tie
 
