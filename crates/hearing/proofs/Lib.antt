@@ -1,2 +1,2 @@
-pub mod Contradicting
-pub mod Looking
+pub mod AskedOfNeighbours
+pub mod NeighboursFound

@@ -1,9 +1,10 @@
 -- What of a record lies next to a packet number: the last packet heard before it, and the first after it (`proofs/NeighboursDecide`
 -- says that no other place has to be looked at). Assumes nothing.
-use Prim.Native.Nat.{ℕ, zero, suc, _+_}
+use Prim.Native.Nat.{ℕ, zero, suc, _+_, _≤_, _<_}
 use mathlib.Core.Bool.{Bool, cond}
 use mathlib.Core.Path.{_≡_}
 use mathlib.Core.List.{List}
+use lib.ListN.{length, getD}
 use Rattle.reception.specs.declared.Head.{Head}
 use Rattle.reception.specs.Sendings.{Held, heldIn}
 use Rattle.reception.specs.Walk.{fits, ends, isHeard}
@@ -27,3 +28,12 @@ nextFits r (suc n) k i a = cond (isHeard r k) (fits i a k (r .elapsed k) (r .siz
 pub record EndBelow (marks elapsed sizes : List ℕ) (k i a : ℕ) : Type 0 where
   pub number-is : (h : Head) → i ≡ endTo (heldIn h marks elapsed sizes) k
   pub octets-are : (h : Head) → a ≡ octetsTo (heldIn h marks elapsed sizes) k
+
+-- nothing was heard before the place first
+pub record NoneBefore (marks : List ℕ) (first : ℕ) : Type 0 where
+  pub none : (j : ℕ) → j < first → getD marks j 0 ≡ 1 → ⊥
+
+-- nothing was heard from the place end on
+pub record NoneFrom (marks : List ℕ) (end : ℕ) : Type 0 where
+  pub inside : end ≤ length marks
+  pub none : (j : ℕ) → end ≤ j → getD marks j 0 ≡ 1 → ⊥

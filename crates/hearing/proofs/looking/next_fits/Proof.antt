@@ -1,20 +1,24 @@
--- `hearing::next_fits` meets its contract. Assumes nothing.
+-- `hearing::looking::next_fits` meets its contract. Assumes nothing.
 use Prim.Native.Nat.{_-_}
 use lib.ListN.{length}
 use Rattle.reception.specs.Sendings.{heldIn}
-use Rattle.hearing.proofs.Looking.{Up, up-start, up-found, up-on, up-none}
+use Rattle.hearing.proofs.NeighboursFound.{Up, up-start, up-found, up-on, up-none}
+use denote.Ref.{now}
 use borrow.Author.Needs.{needs}
-use Rattle.hearing.proofs.next_fits.Statement.{statement}
-use Rattle.hearing.proofs.next_fits.Tie as tie
+use Rattle.hearing.proofs.looking.next_fits.Statement.{statement}
+use Rattle.hearing.proofs.looking.next_fits.Tie as tie
 
 abbrev Inv-loop : tie.InvT-loop
-Inv-loop h marks elapsed sizes k i a j₀ j = Up (heldIn h marks elapsed sizes) k i a j
+Inv-loop h end marks elapsed sizes k i a j₀ j = Up (heldIn h marks elapsed sizes) end k i a j
 
 abbrev μ-loop : tie.MeasureT-loop
-μ-loop h marks elapsed sizes k i a j₀ j = length marks - j
+μ-loop h end marks elapsed sizes k i a j₀ j = end - j
 
 loop-holds : tie.Need-loop-holds Inv-loop μ-loop
-loop-holds c = let p = c .before .before .before .pre .1 in up-start _ _ _ _ (p .0) (p .1)
+loop-holds c =
+    let s = c .before .before .before in
+    let a = s .args in
+    up-start (a .h) (now (a .marks)) (now (a .elapsed)) (now (a .sizes)) _ _ _ _ (s .pre .1 .0) (s .pre .1 .1 .1)
 
 shared-slice-read-if1 : tie.Need-shared-slice-read-if1 Inv-loop μ-loop
 shared-slice-read-if1 c = search needs
@@ -45,7 +49,7 @@ returns c =
     let q = c .before in
     let p = q .before .before .before .before in
     let i = p .before .before in
-    up-found _ _ _ _ _ (i .before .loop .inv) (i .loop-test .taken) (p .if1 .taken) _ _ (q .before .before .from-u32 .ensures .0) (q .from-u16 .ensures .0) _
+    up-found _ _ _ _ _ _ (i .before .loop .inv) (i .loop-test .taken) (p .if1 .taken) _ _ (q .before .before .from-u32 .ensures .0) (q .from-u16 .ensures .0) _
     (c .is-fit .ensures)
 
 add-j : tie.Need-add-j Inv-loop μ-loop
@@ -57,13 +61,13 @@ loop-less c = search needs
 loop-again : tie.Need-loop-again Inv-loop μ-loop
 loop-again c =
     let i = c .before .before in
-    up-on _ _ _ _ _ (i .before .loop .inv) (i .loop-test .taken) (c .if1 .left)
+    up-on _ _ _ _ _ _ (i .before .loop .inv) (i .loop-test .taken) (c .if1 .left)
 
 may-end-requires : tie.Need-may-end-requires Inv-loop μ-loop
 may-end-requires c κs = search needs
 
 returns-2 : tie.Need-returns-2 Inv-loop μ-loop
-returns-2 c = up-none _ _ _ _ _ (c .before .before .loop .inv) (c .before .loop-test .left) _ (c .may-end .ensures)
+returns-2 c = up-none _ _ _ _ _ _ (c .before .before .loop .inv) (c .before .loop-test .left) _ (c .may-end .ensures)
 
 pub next-fits-spec : {M : Type 1} → statement M
 next-fits-spec =

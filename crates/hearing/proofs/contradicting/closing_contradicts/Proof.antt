@@ -1,8 +1,9 @@
--- `hearing::closing_contradicts` meets its contract. Assumes nothing.
-use Rattle.hearing.proofs.Contradicting.{held-closing, new-closing}
+-- `hearing::contradicting::closing_contradicts` meets its contract. Assumes nothing.
+use Rattle.hearing.proofs.NeighboursFound.{last-end}
+use Rattle.hearing.proofs.AskedOfNeighbours.{held-closing, new-closing}
 use borrow.Author.Needs.{needs}
-use Rattle.hearing.proofs.closing_contradicts.Statement.{statement}
-use Rattle.hearing.proofs.closing_contradicts.Tie as tie
+use Rattle.hearing.proofs.contradicting.closing_contradicts.Statement.{statement}
+use Rattle.hearing.proofs.contradicting.closing_contradicts.Tie as tie
 
 cast-differs : tie.Need-cast-differs
 cast-differs c = search needs
@@ -29,8 +30,8 @@ returns-2 : tie.Need-returns-2
 returns-2 c =
     let q = c .before .before in
     let s = q .before .before .before .before .before in
-    let d = q .end-below .ensures in
-    new-closing _ _ _ _ _ (s .pre .1) (q .before .if1 .left) (d .number-is (s .args .h)) (d .octets-are (s .args .h)) _
+    let d = last-end _ _ _ _ _ _ (s .pre .1 .1 .0) (q .end-below .ensures) in
+    new-closing _ _ _ _ _ (s .pre .1 .1 .1) (q .before .if1 .left) (d .number-is (s .args .h)) (d .octets-are (s .args .h)) _
     (rw (c .before .with-closing .ensures) at (c .may-end .ensures))
 
 pub closing-contradicts-spec : {M : Type 1} → statement M

@@ -1,7 +1,7 @@
--- `hearing::differs` meets its contract. Assumes nothing.
+-- `hearing::contradicting::differs` meets its contract. Assumes nothing.
 use borrow.Author.Tests.{eq-eqb, ne-eqb}
-use Rattle.hearing.proofs.differs.Statement.{statement}
-use Rattle.hearing.proofs.differs.Tie as tie
+use Rattle.hearing.proofs.contradicting.differs.Statement.{statement}
+use Rattle.hearing.proofs.contradicting.differs.Tie as tie
 
 returns : tie.Need-returns
 returns c = simp (ne-eqb _ _ (c .if1 .taken))

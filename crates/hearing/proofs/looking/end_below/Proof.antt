@@ -1,17 +1,17 @@
--- `hearing::end_below` meets its contract. Assumes nothing.
-use Rattle.hearing.proofs.Looking.{Down, down-start, down-none, down-found, down-on}
+-- `hearing::looking::end_below` meets its contract. Assumes nothing.
+use Rattle.hearing.proofs.NeighboursFound.{Down, down-start, down-none, down-found, down-on}
 use borrow.Author.Needs.{needs}
-use Rattle.hearing.proofs.end_below.Statement.{statement}
-use Rattle.hearing.proofs.end_below.Tie as tie
+use Rattle.hearing.proofs.looking.end_below.Statement.{statement}
+use Rattle.hearing.proofs.looking.end_below.Tie as tie
 
 abbrev Inv-loop : tie.InvT-loop
-Inv-loop marks elapsed sizes k j₀ j = Down marks elapsed sizes k j
+Inv-loop first marks elapsed sizes k j₀ j = Down first marks elapsed sizes k j
 
 abbrev μ-loop : tie.MeasureT-loop
-μ-loop marks elapsed sizes k j₀ j = j
+μ-loop first marks elapsed sizes k j₀ j = j
 
 loop-holds : tie.Need-loop-holds Inv-loop μ-loop
-loop-holds c = down-start _ _ _ _ (c .before .before .before .pre .1)
+loop-holds c = let p = c .before .before .before .pre .1 in down-start _ _ _ _ _ (p .0) (p .1)
 
 sub-if1 : tie.Need-sub-if1 Inv-loop μ-loop
 sub-if1 c = search needs
@@ -43,14 +43,14 @@ shared-slice-read-from-u16 c = search needs
 from-u16-requires : tie.Need-from-u16-requires Inv-loop μ-loop
 from-u16-requires c κs = search needs
 
-add-t19 : tie.Need-add-t19 Inv-loop μ-loop
-add-t19 c = search needs
+add-t20 : tie.Need-add-t20 Inv-loop μ-loop
+add-t20 c = search needs
 
 returns : tie.Need-returns Inv-loop μ-loop
 returns c =
     let p = c .before .before .before .before in
     let i = p .before .before in
-    down-found _ _ _ _ _ (i .before .loop .inv) (i .loop-test .taken) (p .if1 .taken) _ _ (c .before .before .from-u32 .ensures .0) (c .from-u16 .ensures .0)
+    down-found _ _ _ _ _ _ (i .before .loop .inv) (i .loop-test .taken) (p .if1 .taken) _ _ (c .before .before .from-u32 .ensures .0) (c .from-u16 .ensures .0)
 
 sub-j : tie.Need-sub-j Inv-loop μ-loop
 sub-j c = search needs
@@ -61,10 +61,10 @@ loop-less c = search needs
 loop-again : tie.Need-loop-again Inv-loop μ-loop
 loop-again c =
     let i = c .before .before in
-    down-on _ _ _ _ _ (i .before .loop .inv) (i .loop-test .taken) (c .if1 .left)
+    down-on _ _ _ _ _ _ (i .before .loop .inv) (i .loop-test .taken) (c .if1 .left)
 
 returns-2 : tie.Need-returns-2 Inv-loop μ-loop
-returns-2 c = down-none _ _ _ _ _ (c .before .loop .inv) (c .loop-test .left)
+returns-2 c = down-none _ _ _ _ _ _ (c .before .loop .inv) (c .loop-test .left)
 
 pub end-below-spec : {M : Type 1} → statement M
 end-below-spec =
@@ -83,7 +83,7 @@ end-below-spec =
     mul-from-u16
     shared-slice-read-from-u16
     from-u16-requires
-    add-t19
+    add-t20
     returns
     sub-j
     loop-less
