@@ -1,2 +1,5 @@
+pub mod Answered
 pub mod AskedOfNeighbours
+pub mod Judged
 pub mod NeighboursFound
+pub mod Zeroed

@@ -30,6 +30,9 @@ pub record Kept : Type 0 where
   pub elapsed : List ℕ
   pub sizes : List ℕ
 
+abbrev pub keptIn : Head → List ℕ → List ℕ → List ℕ → Kept
+keptIn h marks elapsed sizes = record { head = h; marks = marks; elapsed = elapsed; sizes = sizes }
+
 abbrev pub heldBy : Kept → Held
 heldBy k = heldIn (k .head) (k .marks) (k .elapsed) (k .sizes)
 
@@ -67,11 +70,11 @@ openHead bearer period stamp =
 -- a record of a key in which nothing was heard yet
 abbrev pub emptyKept : ℕ → ℕ → ℕ → ℕ → Kept
 emptyKept bearer period stamp capacity =
-    record { head = openHead bearer period stamp; marks = replicate capacity 0; elapsed = replicate capacity 0; sizes = replicate capacity 0 }
+    keptIn (openHead bearer period stamp) (replicate capacity 0) (replicate capacity 0) (replicate capacity 0)
 
 -- lists that are not a record's yet
-abbrev unused : List ℕ → List ℕ → List ℕ → Kept
-unused marks elapsed sizes = record { head = openHead 0 0 0; marks = marks; elapsed = elapsed; sizes = sizes }
+abbrev pub unused : List ℕ → List ℕ → List ℕ → Kept
+unused marks elapsed sizes = keptIn (openHead 0 0 0) marks elapsed sizes
 
 -- "Fresh record: 14, 5"; refused, its head is zeros
 unfoldable pub freshRecord : ℕ → ℕ → ℕ → List ℕ → List ℕ → List ℕ → Outcome
@@ -83,11 +86,11 @@ freshRecord bearer period stamp marks elapsed sizes =
 -- the record with packet n of l octets, before which were e
 abbrev pub keepPacket : Kept → ℕ → ℕ → ℕ → Kept
 keepPacket k n e l =
-    record { head = k .head; marks = set (k .marks) n 1; elapsed = set (k .elapsed) n e; sizes = set (k .sizes) n l }
+    keptIn (k .head) (set (k .marks) n 1) (set (k .elapsed) n e) (set (k .sizes) n l)
 
 -- the record with a closing of n packets and t octets
 abbrev pub keepClosing : Kept → ℕ → ℕ → Kept
-keepClosing k n t = record { head = closedHead (k .head) n t; marks = k .marks; elapsed = k .elapsed; sizes = k .sizes }
+keepClosing k n t = keptIn (closedHead (k .head) n t) (k .marks) (k .elapsed) (k .sizes)
 
 -- "9, 10, 11", of a data PDU: "packet number at or above capacity"
 unfoldable pub hearPacket : Kept → ℕ → ℕ → DataPdu → Outcome
@@ -118,6 +121,10 @@ hearFrame k bearer period frame =
     refuses k capacitiesDiffer when unmatched k otherwise
     hearRead k bearer period (readFrame frame)
 
+-- a refusal, and the head as it was
+abbrev pub keeps : Head → ℕ → Taking
+keeps h n = record { answer = Refused (refusing n); head = h }
+
 -- document 01's number for what was taken, and whether it was accepted
 unfoldable pub takenPaper : Taken → CountPaper
 takenPaper Done = record { number = 0; accepted = 1; count = 0 }
@@ -126,4 +133,4 @@ takenPaper (Refused r) = record { number = r .number; accepted = 0; count = 0 }
 -- the promise: answer, head and every place of the three lists are as t says
 pub record Takes (t : Outcome) (r : Taking) (marks elapsed sizes : List ℕ) : Type 0 where
   pub says : takenPaper (r .answer) ≡ takenPaper (t .answer)
-  pub leaves : record { head = r .head; marks = marks; elapsed = elapsed; sizes = sizes } ≡ t .kept
+  pub leaves : keptIn (r .head) marks elapsed sizes ≡ t .kept

@@ -1,0 +1,168 @@
+// What a record takes: refusals 14, 9, 10 and 11, and the stores of a packet. A record that is damaged is refused before, by the
+// callers.
+ghost use mathlib.Core.Path.{_≡_};
+ghost use mathlib.Core.Bool.{true};
+ghost use Prim.Native.Nat.{_≤_, _<_};
+ghost use lib.ListN.{length, replicate};
+ghost use Rattle.reception.specs.Sendings.{heldIn};
+ghost use Rattle.reception.specs.Walk.{isExplained};
+ghost use Rattle.reception.specs.Damage.{Matched};
+ghost use Rattle.reception.specs.Neighbours.{NoneBefore, NoneFrom};
+ghost use Rattle.reception.specs.Hearing.{keptIn, keeps, listsDiffer, otherKey, openHead, hearPacket, hearClosing, Takes};
+use crate::contradicting::Span;
+use crate::contradicting::closing_contradicts;
+use crate::contradicting::packet_contradicts;
+use crate::contradicting::with_closing;
+use frame::ClosingPdu;
+use frame::DataPdu;
+use reception::Head;
+use reception::Taken;
+use reception::Taking;
+use units::Octets;
+use units::Packets;
+use units::Refusal;
+use units::limits::MOST_CAPACITY;
+use units::refusals::BEYOND_CAPACITY;
+use units::refusals::CONTRADICTION;
+use units::refusals::OTHER_SEQUENCE;
+
+// A refusal, and the head as it was.
+pub fn refused(h: Head, number: u8) -> Taking
+    ensures { λ r. ⌜ r ≡ keeps h number ⌝ }
+{
+    Taking {
+        answer: Taken::Refused(Refusal { number: number }),
+        head: h,
+    }
+}
+
+// Whether three lists, by their lengths, are no record's.
+pub fn lists_differ(marks: usize, elapsed: usize, sizes: usize) -> bool
+    ensures { λ r. ⌜ r ≡ listsDiffer marks elapsed sizes ⌝ }
+{
+    if MOST_CAPACITY < marks as u64 {
+        return true;
+    }
+    if elapsed != marks {
+        return true;
+    }
+    sizes != marks
+}
+
+// Whether bearer, period or stamp is another sequence's.
+fn other_key(h: Head, bearer: u32, period: u32, stamp: u32) -> bool
+    ensures { λ r. ⌜ r ≡ otherKey h bearer period stamp ⌝ }
+{
+    if h.bearer != bearer {
+        return true;
+    }
+    if h.period != period {
+        return true;
+    }
+    h.stamp != stamp
+}
+
+// A head of a key, and without a closing.
+pub fn open_head(bearer: u32, period: u32, stamp: u32) -> Head
+    ensures { λ r. ⌜ r ≡ openHead bearer period stamp ⌝ }
+{
+    Head {
+        bearer: bearer,
+        period: period,
+        stamp: stamp,
+        closed: false,
+        count: Packets(0),
+        total: Octets(0),
+    }
+}
+
+// Zeros in every place.
+pub fn clear(marks: &mut [u8], elapsed: &mut [u32], sizes: &mut [u16])
+    requires { ⌜ Matched (now marks) (now elapsed) (now sizes) ⌝ }
+    ensures { λ _. ⌜ (now (marks .exit) ≡ replicate (length (now (marks .entry))) 0)
+        × (now (elapsed .exit) ≡ replicate (length (now (marks .entry))) 0)
+        × (now (sizes .exit) ≡ replicate (length (now (marks .entry))) 0) ⌝ }
+{
+    let mut k: usize = 0;
+    while k < marks.len() {
+        marks[k] = 0;
+        elapsed[k] = 0;
+        sizes[k] = 0;
+        k += 1;
+    }
+}
+
+// A data PDU, for a record that some sending explains.
+pub fn take_packet(
+    h: Head,
+    span: Span,
+    marks: &mut [u8],
+    elapsed: &mut [u32],
+    sizes: &mut [u16],
+    bearer: u32,
+    period: u32,
+    d: DataPdu,
+) -> Taking
+    requires { ⌜ Matched (now marks) (now elapsed) (now sizes) ⌝ }
+    requires { ⌜ NoneBefore (now marks) (span .first) ⌝ }
+    requires { ⌜ NoneFrom (now marks) (span .end) ⌝ }
+    requires { ⌜ isExplained (heldIn h (now marks) (now elapsed) (now sizes)) ≡ true ⌝ }
+    requires { ⌜ (d .elapsed .0 < 4294967296) × (d .length .0 < 65536) ⌝ }
+    ensures { λ r. ⌜ Takes
+        (hearPacket (keptIn h (now (marks .entry)) (now (elapsed .entry)) (now (sizes .entry))) bearer period d)
+        r (now (marks .exit)) (now (elapsed .exit)) (now (sizes .exit)) ⌝ }
+{
+    if other_key(h, bearer, period, d.stamp) {
+        return refused(h, OTHER_SEQUENCE);
+    }
+    let k = d.number.0 as usize;
+    if marks.len() <= k {
+        return refused(h, BEYOND_CAPACITY);
+    }
+    let e = d.elapsed.0;
+    let l = d.length.0;
+    if packet_contradicts(h, span, marks, elapsed, sizes, k, e, l) {
+        return refused(h, CONTRADICTION);
+    }
+    marks[k] = 1;
+    elapsed[k] = e as u32;
+    sizes[k] = l as u16;
+    Taking {
+        answer: Taken::Done,
+        head: h,
+    }
+}
+
+// A closing PDU, for a record that some sending explains.
+pub fn take_closing(
+    h: Head,
+    span: Span,
+    marks: &[u8],
+    elapsed: &[u32],
+    sizes: &[u16],
+    bearer: u32,
+    period: u32,
+    c: ClosingPdu,
+) -> Taking
+    requires { ⌜ Matched (now marks) (now elapsed) (now sizes) ⌝ }
+    requires { ⌜ NoneBefore (now marks) (span .first) ⌝ }
+    requires { ⌜ NoneFrom (now marks) (span .end) ⌝ }
+    requires { ⌜ isExplained (heldIn h (now marks) (now elapsed) (now sizes)) ≡ true ⌝ }
+    ensures { λ r. ⌜ Takes
+        (hearClosing (keptIn h (now (marks .entry)) (now (elapsed .entry)) (now (sizes .entry))) bearer period c)
+        r (now (marks .entry)) (now (elapsed .entry)) (now (sizes .entry)) ⌝ }
+{
+    if other_key(h, bearer, period, c.stamp) {
+        return refused(h, OTHER_SEQUENCE);
+    }
+    if marks.len() < c.number.0 as usize {
+        return refused(h, BEYOND_CAPACITY);
+    }
+    if closing_contradicts(h, span, marks, elapsed, sizes, c.number, c.elapsed) {
+        return refused(h, CONTRADICTION);
+    }
+    Taking {
+        answer: Taken::Done,
+        head: with_closing(h, c.number, c.elapsed),
+    }
+}
