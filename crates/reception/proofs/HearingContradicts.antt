@@ -40,6 +40,12 @@ module _ (k : Kept) (bearer period : ℕ) (f : List ℕ) (d : DataPdu) (e : read
   agreed : packetContradicts (heldBy k) (d .number .0) (d .elapsed .0) (d .length .0) ≡ false → hearFrame k bearer period f .answer ≡ Done
   agreed h = ap (λ (o : Outcome). o .answer) (data-taken k bearer period f d e sound (record { own = own; below = below; agrees = h }))
 
+  pub contradicting-packet : packetContradicts (heldBy k) (d .number .0) (d .elapsed .0) (d .length .0) ≡ true
+      → hearFrame k bearer period f ≡ refuses k contradiction
+  unfolding hearPacket
+  contradicting-packet h =
+      heard-data k bearer period f d e sound ∙ simp (own, lt-leb (length (k .marks)) (d .number .0) below, h)
+
   -- a packet of a sending that explains the record is accepted
   pub explained-packet : (s : List ℕ) → Explains (heldBy k) s → Sent s (d .number .0) (d .elapsed .0) (d .length .0)
       → hearFrame k bearer period f .answer ≡ Done
@@ -48,11 +54,8 @@ module _ (k : Kept) (bearer period : ℕ) (f : List ℕ) (d : DataPdu) (e : read
   -- a packet of no such sending is refused with 11
   pub unexplained-packet : ((s : List ℕ) → Explains (heldBy k) s → Sent s (d .number .0) (d .elapsed .0) (d .length .0) → ⊥)
       → hearFrame k bearer period f ≡ refuses k contradiction
-  unfolding hearPacket
   unexplained-packet never =
-      ⊎-elim
-      (λ (t : packetContradicts (heldBy k) (d .number .0) (d .elapsed .0) (d .length .0) ≡ true).
-      heard-data k bearer period f d e sound ∙ simp (own, lt-leb (length (k .marks)) (d .number .0) below, t))
+      ⊎-elim contradicting-packet
       (λ t. let x = packet-explained k bearer period f d e (agreed t) in absurd (never (x .0) (x .1) (x .2)))
       (either (packetContradicts (heldBy k) (d .number .0) (d .elapsed .0) (d .length .0)))
 
@@ -90,17 +93,20 @@ module _ (k : Kept) (bearer period : ℕ) (f : List ℕ) (c : ClosingPdu) (e : R
   agreed-closing h =
       ap (λ (o : Outcome). o .answer) (closing-taken k bearer period f c e sound (record { own = own; within = within; agrees = h }))
 
+  pub contradicting-closing : closingContradicts (heldBy k) (c .number .0) (c .elapsed .0) ≡ true
+      → hearFrame k bearer period f ≡ refuses k contradiction
+  unfolding hearClosing
+  contradicting-closing h =
+      heard-closing k bearer period f c e sound ∙ simp (own, le-ltb (length (k .marks)) (c .number .0) within, h)
+
   pub explained-closing : (s : List ℕ) → Explains (heldBy k) s → Whole s (c .number .0) (c .elapsed .0)
       → hearFrame k bearer period f .answer ≡ Done
   explained-closing s x w = agreed-closing (agreeing-closing (heldBy k) _ _ s x w)
 
   pub unexplained-closing : ((s : List ℕ) → Explains (heldBy k) s → Whole s (c .number .0) (c .elapsed .0) → ⊥)
       → hearFrame k bearer period f ≡ refuses k contradiction
-  unfolding hearClosing
   unexplained-closing never =
-      ⊎-elim
-      (λ (t : closingContradicts (heldBy k) (c .number .0) (c .elapsed .0) ≡ true).
-      heard-closing k bearer period f c e sound ∙ simp (own, le-ltb (length (k .marks)) (c .number .0) within, t))
+      ⊎-elim contradicting-closing
       (λ t. let x = closing-explained k bearer period f c e (agreed-closing t) in absurd (never (x .0) (x .1) (x .2)))
       (either (closingContradicts (heldBy k) (c .number .0) (c .elapsed .0)))
 

@@ -1,15 +1,17 @@
 -- What the lists of a record hold after a frame was kept in them, and that they stay of one length. Assumes nothing.
 use Prim.Native.Nat.{ℕ, zero, suc, _≤_, _<_}
-use mathlib.Core.Path.{_≡_, refl, _∙_}
+use mathlib.Core.Path.{_≡_, refl, sym, ap, _∙_}
 use mathlib.Core.Logic.{⊎-elim}
 use mathlib.Core.Bool.{true, false, cond, not}
 use mathlib.Core.List.{List}
 use lib.Dec.{ltb, eqb}
 use lib.ListN.{length, getD, set, replicate, length-set, length-replicate}
-use lib.Seq.{getD-set-same, getD-set-other}
+use lib.Seq.{getD-set-same, getD-set-other, ext-getD}
 use borrow.Author.Tests.{ltb-false, le-ltb, eqb-true, eqb-false, eq-eqb, not-false}
 use Rattle.units.specs.Limits.{mostCapacity}
 use Rattle.fields.proofs.Tests.{either, or-false}
+use Rattle.reception.specs.declared.Head.{Head}
+use Rattle.reception.specs.Sendings.{Held}
 use Rattle.reception.specs.Damage.{Matched}
 use Rattle.reception.specs.Adding.{withPacket, withClosing, emptyRecord}
 use Rattle.reception.specs.Hearing.{Kept, heldBy, listsDiffer, keepPacket, keepClosing, emptyKept}
@@ -90,3 +92,31 @@ packet-matched k n e l m =
       elapseds = rw same (length-set (k .elapsed) n e ∙ m .elapseds);
       lengths = rw same (length-set (k .sizes) n l ∙ m .lengths);
     }
+
+-- two heads of one key
+pub record SameKey (a b : Head) : Type 0 where
+  pub bearers : a .bearer ≡ b .bearer
+  pub periods : a .period ≡ b .period
+  pub stamps : a .stamp ≡ b .stamp
+
+-- a record is told by its key and by what it holds, lists and all
+pub told-by-held : (a b : Kept) → MatchedKept a → MatchedKept b → SameKey (a .head) (b .head) → heldBy a ≡ heldBy b → a ≡ b
+told-by-held a b m n key h =
+    λ i.
+    record {
+      head =
+          record {
+            bearer = key .bearers i;
+            period = key .periods i;
+            stamp = key .stamps i;
+            closed = h i .closed;
+            count = record { 0 = h i .count };
+            total = record { 0 = h i .total };
+          };
+      marks = ext-getD 0 (a .marks) (b .marks) long (λ j _. ap (λ (r : Held). r .mark j) h) i;
+      elapsed = ext-getD 0 (a .elapsed) (b .elapsed) (m .elapseds ∙ long ∙ sym (n .elapseds)) (λ j _. ap (λ (r : Held). r .elapsed j) h) i;
+      sizes = ext-getD 0 (a .sizes) (b .sizes) (m .lengths ∙ long ∙ sym (n .lengths)) (λ j _. ap (λ (r : Held). r .size j) h) i;
+    }
+  where
+    long : length (a .marks) ≡ length (b .marks)
+    long = ap (λ (r : Held). r .capacity) h

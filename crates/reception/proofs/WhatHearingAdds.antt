@@ -19,7 +19,7 @@ use Rattle.reception.specs.declared.Head.{Head}
 use Rattle.reception.specs.declared.Taken.the-variants.{Done}
 use Rattle.reception.specs.Adding.{withPacket, withClosing, packetContradicts, closingContradicts}
 use Rattle.reception.specs.Hearing.{Kept, Outcome, heldBy, refuses, takes, unmatched, damagedKept, otherKey, keepPacket, keepClosing, hearPacket, hearClosing, hearRead, hearFrame}
-use Rattle.reception.proofs.KeptAsHeld.{MatchedKept, lists-matched, held-packet}
+use Rattle.reception.proofs.KeptAsHeld.{MatchedKept, lists-matched, held-packet, SameKey}
 use Rattle.reception.proofs.RefusalChangesNothing.{done-not-refused}
 
 -- an accepted frame passed the first test of a chain
@@ -149,7 +149,7 @@ pub record ClosingHeard (k : Kept) (c : ClosingPdu) (after : Kept) : Type 0 wher
   pub kept-is : after ≡ keepClosing k (c .number .0) (c .elapsed .0)
   pub holds : heldBy after ≡ withClosing (heldBy k) (c .number .0) (c .elapsed .0)
   pub within : c .number .0 ≤ length (k .marks)
-  pub same-key : (after .head .bearer ≡ k .head .bearer) × (after .head .period ≡ k .head .period) × (after .head .stamp ≡ k .head .stamp)
+  pub same-key : SameKey (after .head) (k .head)
 
 pub closing-heard : (k : Kept) (bearer period : ℕ) (f : List ℕ) (c : ClosingPdu) → ReadAsClosing f c
     → hearFrame k bearer period f .answer ≡ Done → ClosingHeard k c (hearFrame k bearer period f .kept)
@@ -160,5 +160,10 @@ closing-heard k bearer period f c e a =
       kept-is = q;
       holds = ap heldBy q;
       within = p .1 .within;
-      same-key = (ap (λ (x : Kept). x .head .bearer) q, ap (λ (x : Kept). x .head .period) q, ap (λ (x : Kept). x .head .stamp) q);
+      same-key =
+          record {
+            bearers = ap (λ (x : Kept). x .head .bearer) q;
+            periods = ap (λ (x : Kept). x .head .period) q;
+            stamps = ap (λ (x : Kept). x .head .stamp) q;
+          };
     }

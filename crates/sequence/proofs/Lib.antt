@@ -1,0 +1,4 @@
+pub mod FramesOfSender
+pub mod NeverRefused
+pub mod OnlyWhichFrames
+pub mod PiecesRead
