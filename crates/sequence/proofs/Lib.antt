@@ -1,3 +1,4 @@
+pub mod BenchExamples
 pub mod FramesOfSender
 pub mod NeverRefused
 pub mod OnlyWhichFrames
