@@ -6,7 +6,7 @@ use mathlib.Core.Logic.{⊎-elim}
 use mathlib.Core.Bool.{true, false}
 use mathlib.Core.List.{List}
 use native.Mathlib.Omega.{arith}
-use lib.ListN.{length}
+use lib.ListN.{length, getD}
 use borrow.Author.Tests.{le-ltb, lt-leb}
 use Rattle.units.specs.Limits.{mostInSequence}
 use Rattle.units.specs.Refusals.{refusing, contradiction}
@@ -77,6 +77,26 @@ module _ (k : Kept) (bearer period : ℕ) (f : List ℕ) (d : DataPdu) (e : read
       let p = added-explains (heldBy k) _ _ _ (x .0) below new (x .1) in
       explained-packet (x .0) (p .0) (p .1)
 
+  -- so it is refused with 11 exactly if none does
+  pub unexplained-new-packet : (Explained (withPacket (heldBy k) (d .number .0) (d .elapsed .0) (d .length .0)) → ⊥)
+      → hearFrame k bearer period f ≡ refuses k contradiction
+  unexplained-new-packet never = unexplained-packet (λ s x w. never (s, explains-added (heldBy k) _ _ _ s x w))
+
+  pub refused-new-packet : isHeard (heldBy k) (d .number .0) ≡ false
+      → hearFrame k bearer period f .answer ≡ Refused (refusing contradiction)
+      → Explained (withPacket (heldBy k) (d .number .0) (d .elapsed .0) (d .length .0)) → ⊥
+  refused-new-packet new r x = done-not-refused _ (sym (explained-new-packet new x) ∙ r)
+
+  -- where its place holds a packet of other octets, it is refused with 11
+  pub other-packet-refused : getD (k .marks) (d .number .0) 0 ≡ 1
+      → ((getD (k .elapsed) (d .number .0) 0 ≡ d .elapsed .0) × (getD (k .sizes) (d .number .0) 0 ≡ d .length .0) → ⊥)
+      → hearFrame k bearer period f ≡ refuses k contradiction
+  other-packet-refused marked other =
+      unexplained-packet
+      (λ s x w.
+      let v = x .packets (d .number .0) (record { below = below; marked = marked }) in
+      other (sym (v .before-is) ∙ w .before-is, sym (v .length-is) ∙ w .length-is))
+
 -- the same of a closing
 pub closing-explained : (k : Kept) (bearer period : ℕ) (f : List ℕ) (c : ClosingPdu) → ReadAsClosing f c
     → hearFrame k bearer period f .answer ≡ Done → (s : List ℕ) × Explains (heldBy k) s × Whole s (c .number .0) (c .elapsed .0)
@@ -125,3 +145,19 @@ module _ (k : Kept) (bearer period : ℕ) (f : List ℕ) (c : ClosingPdu) (e : R
   explained-new-closing new x =
       let p = closed-explains (heldBy k) _ _ (x .0) new (x .1) in
       explained-closing (x .0) (p .0) (p .1)
+
+  pub unexplained-new-closing : (Explained (withClosing (heldBy k) (c .number .0) (c .elapsed .0)) → ⊥)
+      → hearFrame k bearer period f ≡ refuses k contradiction
+  unexplained-new-closing never = unexplained-closing (λ s x w. never (s, explains-closed (heldBy k) _ _ s x w))
+
+  pub refused-new-closing : k .head .closed ≡ false → hearFrame k bearer period f .answer ≡ Refused (refusing contradiction)
+      → Explained (withClosing (heldBy k) (c .number .0) (c .elapsed .0)) → ⊥
+  refused-new-closing new r x = done-not-refused _ (sym (explained-new-closing new x) ∙ r)
+
+  pub other-closing-refused : k .head .closed ≡ true
+      → ((k .head .count .0 ≡ c .number .0) × (k .head .total .0 ≡ c .elapsed .0) → ⊥) → hearFrame k bearer period f ≡ refuses k contradiction
+  other-closing-refused closed other =
+      unexplained-closing
+      (λ s x w.
+      let v = x .closing closed in
+      other (sym (v .count-is) ∙ w .count-is, sym (v .total-is) ∙ w .total-is))
