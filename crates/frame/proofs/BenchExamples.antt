@@ -41,7 +41,7 @@ B-written : dataFrame 0 0 0 (1 ∷ []) ≡ B
 unfolding octets divide lowDigits bitsOf check dataFrame
 B-written = refl
 
-B-read : readFrame B ≡ Data (first 1)
+pub B-read : readFrame B ≡ Data (first 1)
 unfolding be divide lowDigits bitsOf check readFrame readHeaded readBody dataWrong
 B-read = refl
 

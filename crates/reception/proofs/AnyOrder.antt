@@ -17,10 +17,10 @@ use Rattle.fields.proofs.Tests.{or-true}
 use Rattle.reception.proofs.ContradictsExactly.{explains-added, explains-closed, agreeing-packet, agreeing-closing}
 
 -- a packet of s, and the whole of s
-sent-at : (s : List ℕ) (k : ℕ) → k < length s → Sent s k (sumOf (take k s)) (getD s k 0)
+pub sent-at : (s : List ℕ) (k : ℕ) → k < length s → Sent s k (sumOf (take k s)) (getD s k 0)
 sent-at s k lt = record { within = lt; length-is = refl; before-is = refl }
 
-whole-of : (s : List ℕ) → Whole s (length s) (sumOf s)
+pub whole-of : (s : List ℕ) → Whole s (length s) (sumOf s)
 whole-of s = record { count-is = refl; total-is = refl }
 
 -- an empty record is explained by every sending
@@ -117,3 +117,17 @@ only-which-came c s ps =
     as-it-is : (b : Bool) → cond b true false ≡ b
     as-it-is true = refl
     as-it-is false = refl
+
+-- records that are one place by place are one
+pub same-is-one : (a b : Held) → Same a b → a ≡ b
+same-is-one a b h =
+    λ i.
+    record {
+      capacity = h .capacities i;
+      mark = λ k. h .marks k i;
+      elapsed = λ k. h .elapseds k i;
+      size = λ k. h .sizes k i;
+      closed = h .closeds i;
+      count = h .counts i;
+      total = h .totals i;
+    }

@@ -41,6 +41,13 @@ three-explains c m l hm hl =
     explains-added (emptyRecord c) 0 0 1 (three m l) (explains-empty c _ (three-sending m l hm hl))
     (record { within = omega arith; length-is = refl; before-is = refl })
 
+-- B itself is accepted by an empty record
+pub B-accepted : (c : ℕ) → 0 < c → packetContradicts (emptyRecord c) 0 0 1 ≡ false
+unfolding three sumOf
+B-accepted c lt =
+    agreeing-packet (emptyRecord c) 0 0 1 (three 0 0) lt (explains-empty c _ (three-sending 0 0 (omega arith) (omega arith)))
+    (record { within = omega arith; length-is = refl; before-is = refl })
+
 -- packet 2 after m octets more than B's is accepted, where m is a length
 third : (c m l : ℕ) → 3 ≤ c → m ≤ mostPayload → l ≤ mostPayload → packetContradicts (afterB c) 2 (1 + m) l ≡ false
 unfolding three sumOf

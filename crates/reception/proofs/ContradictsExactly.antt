@@ -17,7 +17,7 @@ use Rattle.reception.proofs.Decided.{Sized, walk-explained, explained-w
 alike : (a b c d : ℕ) → differ a b c d ≡ false → (a ≡ c) × (b ≡ d)
 alike a b c d h = let p = both (eqb a c) (eqb b d) (not-false _ h) in (eqb-true a c (p .0), eqb-true b d (p .1))
 
-same-pair : (a b c d : ℕ) → a ≡ c → b ≡ d → differ a b c d ≡ false
+pub same-pair : (a b c d : ℕ) → a ≡ c → b ≡ d → differ a b c d ≡ false
 same-pair a b c d p q = rw (eq-eqb a c p, eq-eqb b d q)
 
 -- what explains a record and has the packet explains the record with it

@@ -3,7 +3,13 @@ pub mod BenchExamples
 pub mod ContradictsExactly
 pub mod DamagedExactly
 pub mod Decided
+pub mod HeardAgain
+pub mod HearingContradicts
+pub mod HearingUndamaged
+pub mod KeptAsHeld
 pub mod NeighboursDecide
 pub mod Points
+pub mod RefusalChangesNothing
 pub mod StaysUndamaged
 pub mod SumsBefore
+pub mod WhatHearingAdds

@@ -79,7 +79,7 @@ counts-are s (more {p} {ps} h w) r =
     ap (λ (x : Sender). afterData x ps) (q .0) ∙ counts-are (advanced s (length p)) w (q .1) ∙ simp add-assoc
 
 -- between two sequences the counts of a sequence are zero
-zeros : (f : Phase) (s : Sender) → isOpen f ≡ false → restWrong f s ≡ false → (s .number .0 ≡ 0) × (s .elapsed .0 ≡ 0)
+pub zeros : (f : Phase) (s : Sender) → isOpen f ≡ false → restWrong f s ≡ false → (s .number .0 ≡ 0) × (s .elapsed .0 ≡ 0)
 unfolding someOf
 zeros Fresh s o r =
     let p = or-false (not (eqb (s .stamp) 0)) _ r in

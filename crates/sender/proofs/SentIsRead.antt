@@ -26,7 +26,7 @@ use Rattle.sender.proofs.Undamaged.{undamaged}
 use Rattle.sender.proofs.Written.{data-written, closing-written, lengths-closed, closedBy}
 
 -- an accepted call passed the first test
-passed : (s : Sender) (n k : ℕ) (t : Bool) (b : Sending) → (keeps s n when t otherwise b) .answer ≡ Done k → (t ≡ false) × (b .answer ≡ Done k)
+pub passed : (s : Sender) (n k : ℕ) (t : Bool) (b : Sending) → (keeps s n when t otherwise b) .answer ≡ Done k → (t ≡ false) × (b .answer ≡ Done k)
 passed s n k true b e =
     let z : _≡_ {A = ℕ} 0 1 = cc in
     absurd (omega arith)

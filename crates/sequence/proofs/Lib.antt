@@ -1,0 +1,5 @@
+pub mod BenchExamples
+pub mod FramesOfSender
+pub mod NeverRefused
+pub mod OnlyWhichFrames
+pub mod PiecesRead
