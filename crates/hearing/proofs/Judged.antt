@@ -1,14 +1,14 @@
 -- A record before a frame is taken: what is known of it once its lists match and it is not damaged, and how the answers of the stages
 -- are those of the whole. Assumes nothing.
 use Prim.Native.Nat.{ℕ, _≤_, _<_}
-use mathlib.Core.Path.{_≡_, refl, sym, ap}
-use mathlib.Core.Bool.{Bool, true, false, not}
+use mathlib.Core.Path.{_≡_, refl}
+use mathlib.Core.Bool.{true, false}
 use mathlib.Core.List.{List}
 use native.Mathlib.Omega.{arith}
-use lib.Dec.{ltb, eqb}
+use lib.Dec.{ltb}
 use lib.ListN.{length, getD, replicate, List·getD-eq-default}
-use borrow.Author.Tests.{ltb-false, eqb-true, not-false, lt-ltb, le-ltb}
-use Rattle.units.specs.Limits.{mostCapacity, lastStamp}
+use borrow.Author.Tests.{not-false, lt-ltb, le-ltb}
+use Rattle.units.specs.Limits.{lastStamp}
 use Rattle.units.specs.Refusals.{stampTooHigh, recordDamaged, capacitiesDiffer}
 use Rattle.fields.proofs.Tests.{or-false}
 use Rattle.frame.specs.declared.ClosingPdu.{ClosingPdu}
@@ -21,21 +21,9 @@ use Rattle.reception.specs.declared.Taken.the-variants.{Done, Refused}
 use Rattle.reception.specs.declared.Taking.{Taking}
 use Rattle.reception.specs.Sendings.{Held}
 use Rattle.reception.specs.Walk.{isExplained}
-use Rattle.reception.specs.Damage.{Matched, closingOff, placesWrong, walkFails, damagedRecord}
+use Rattle.reception.specs.Damage.{closingOff, placesWrong, walkFails, damagedRecord}
 use Rattle.reception.specs.Neighbours.{NoneBefore, NoneFrom}
 use Rattle.reception.specs.Hearing.{Kept, Outcome, refuses, takes, listsDiffer, unmatched, damagedKept, unused, openHead, emptyKept, freshRecord, hearPacket, hearClosing, hearRead, hearFrame, Takes}
-
--- the lists match
-pub matched : (marks elapsed sizes : List ℕ) → listsDiffer (length marks) (length elapsed) (length sizes) ≡ false → Matched marks elapsed sizes
-unfolding listsDiffer
-matched marks elapsed sizes h =
-    let p = or-false (ltb mostCapacity (length marks)) _ h in
-    let q = or-false (not (eqb (length elapsed) (length marks))) _ (p .1) in
-    record {
-      room = ltb-false _ _ (p .0);
-      elapseds = eqb-true _ _ (not-false _ (q .0));
-      lengths = eqb-true _ _ (not-false _ (q .1));
-    }
 
 -- a record that is not damaged is explained
 pub explained : (stamp : ℕ) (r : Held) → damagedRecord stamp r ≡ false → isExplained r ≡ true

@@ -1,5 +1,6 @@
 // Hearing: a fresh record, and frames taken into it.
 pub mod contradicting;
+pub mod following;
 pub mod looking;
 mod taking;
 

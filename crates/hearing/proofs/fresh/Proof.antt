@@ -3,7 +3,8 @@ use mathlib.Core.Path.{refl, sym, _∙_}
 use lib.ListN.{length}
 use denote.Ref.{now}
 use Rattle.hearing.proofs.Answered.{refused-as, taken-as}
-use Rattle.hearing.proofs.Judged.{matched, fresh-unmatched, fresh-high, fresh-taken, empty-as}
+use Rattle.reception.proofs.KeptAsHeld.{lists-matched}
+use Rattle.hearing.proofs.Judged.{fresh-unmatched, fresh-high, fresh-taken, empty-as}
 use native.Mathlib.Omega.{arith}
 use borrow.Author.Needs.{needs}
 use Rattle.hearing.proofs.fresh.Statement.{statement}
@@ -44,7 +45,7 @@ returns-2 c =
 clear-requires : tie.Need-clear-requires
 clear-requires c κs =
     let e = c .before .before .before .before in
-    matched _ _ _ (sym (e .before .lists-differ .ensures) ∙ e .if1 .left)
+    lists-matched _ _ _ (sym (e .before .lists-differ .ensures) ∙ e .if1 .left)
 
 open-head-requires-3 : tie.Need-open-head-requires-3
 open-head-requires-3 c κs = search needs

@@ -10,7 +10,8 @@ use Rattle.frame.specs.declared.Read.the-variants.{Data}
 use Rattle.reception.specs.Damage.{Matched}
 use Rattle.reception.specs.Hearing.{listsDiffer, hearRead}
 use Rattle.hearing.proofs.Answered.{refused-as}
-use Rattle.hearing.proofs.Judged.{matched, same-outcome, frame-unmatched, frame-read, unread, closing-only}
+use Rattle.reception.proofs.KeptAsHeld.{lists-matched}
+use Rattle.hearing.proofs.Judged.{same-outcome, frame-unmatched, frame-read, unread, closing-only}
 use native.Mathlib.Omega.{arith}
 use borrow.Author.Needs.{needs}
 use Rattle.hearing.proofs.hear.Statement.{statement}
@@ -55,19 +56,19 @@ hear-data-requires c κs =
     let r = c .before .before .before .before in
     let f = r .before .before in
     let d = data-said _ _ (told f ∙ r .read2 .given .1) in
-    (matched _ _ _ (even f), (omega (arith, d .number, d .elapsed), omega (arith, d .short)))
+    (lists-matched _ _ _ (even f), (omega (arith, d .number, d .elapsed), omega (arith, d .short)))
 
 enum-known-read-3 : tie.Need-enum-known-read-3
 enum-known-read-3 c = search needs
 
 hear-closing-requires : tie.Need-hear-closing-requires
-hear-closing-requires c κs = matched _ _ _ (even (c .before .before .before .before .before .before))
+hear-closing-requires c κs = lists-matched _ _ _ (even (c .before .before .before .before .before .before))
 
 enum-known-read-4 : tie.Need-enum-known-read-4
 enum-known-read-4 c = search needs
 
 hear-closing-requires-2 : tie.Need-hear-closing-requires-2
-hear-closing-requires-2 c κs = matched _ _ _ (even (c .before .before .before .before .before .before))
+hear-closing-requires-2 c κs = lists-matched _ _ _ (even (c .before .before .before .before .before .before))
 
 returns-2 : tie.Need-returns-2
 returns-2 c =

@@ -1,0 +1,33 @@
+-- `hearing::following::follow` meets its contract. Assumes nothing.
+use Rattle.hearing.proofs.SpanKept.{follow-done, follow-refused}
+use native.Mathlib.Omega.{arith}
+use borrow.Author.Needs.{needs}
+use Rattle.hearing.proofs.following.follow.Statement.{statement}
+use Rattle.hearing.proofs.following.follow.Tie as tie
+use Rattle.hearing.proofs.following.follow.Reads as reads
+use Rattle.hearing.proofs.following.follow.Lts as lts
+use Rattle.hearing.proofs.following.higher.Reads as higher-reads
+use Rattle.hearing.proofs.following.lower.Reads as lower-reads
+
+enum-told : tie.Need-enum-told
+enum-told c = search needs
+
+lower-requires : tie.Need-lower-requires
+lower-requires c κs = search needs
+
+higher-requires : tie.Need-higher-requires
+higher-requires c κs = search needs
+
+enum-known-answer : tie.Need-enum-known-answer
+enum-known-answer c = search needs
+
+returns : tie.Need-returns
+returns c = follow-done _ _ _ _ _ (c .before .before .enum-told .given .1) (c .before .lower .ensures) (c .higher .ensures)
+
+returns-2 : tie.Need-returns-2
+returns-2 c = follow-refused _ _ _ _ (c .before .answer .given .1)
+
+pub follow-spec : {M : Type 1} → statement M
+follow-spec =
+    tie.close
+    (tie.spec enum-told lower-requires higher-requires enum-known-answer returns returns-2)

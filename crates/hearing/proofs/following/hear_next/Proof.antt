@@ -1,0 +1,133 @@
+-- `hearing::following::hear_next` meets its contract. Assumes nothing.
+use mathlib.Core.Path.{_≡_, sym, _∙_}
+use denote.Ref.{now}
+use Rattle.frame.specs.Reading.{readFrame}
+use Rattle.frame.proofs.OnePaper.{read-known}
+use Rattle.frame.proofs.Said.{DataSaid, data-said}
+use Rattle.reception.proofs.KeptAsHeld.{matched-lists}
+use Rattle.hearing.proofs.Judged.{frame-read, packet-judged, closing-judged, closing-only, unread}
+use Rattle.hearing.proofs.SpanKept.{follows-still, same-follows}
+use native.Mathlib.Omega.{arith}
+use borrow.Author.Needs.{needs}
+use Rattle.hearing.proofs.following.hear_next.Statement.{statement}
+use Rattle.hearing.proofs.following.hear_next.Tie as tie
+use Rattle.hearing.proofs.following.hear_next.Reads as reads
+use Rattle.hearing.proofs.following.hear_next.Lts as lts
+use Rattle.hearing.proofs.following.next_closing.Reads as next-closing-reads
+use Rattle.hearing.proofs.following.next_packet.Reads as next-packet-reads
+use Rattle.reader.proofs.read_frame.Reads as read-frame-reads
+
+-- what the frame was read as
+told : (c : tie.After-read-frame) → readFrame (now (c .before .before .before .before .before .args .frame)) ≡ c .read-frame .result
+told c = sym (read-known (c .read-frame .result) _ (c .read-frame .ensures))
+
+read-frame-requires : tie.Need-read-frame-requires
+read-frame-requires c κs = search needs
+
+enum-known-read : tie.Need-enum-known-read
+enum-known-read c = search needs
+
+enum-known-read-2 : tie.Need-enum-known-read-2
+enum-known-read-2 c = search needs
+
+next-packet-requires : tie.Need-next-packet-requires
+next-packet-requires c κs =
+    let r = c .before .before .before .before in
+    let f = r .before .before in
+    let p = f .before .before .before .before .before .pre in
+    let d = data-said _ _ (told f ∙ r .read2 .given .1) in
+    (p .0, (p .1 .0, (p .1 .1 .0, (p .1 .1 .1, (omega (arith, d .number), omega (arith, d .number, d .elapsed), omega (arith, d .short))))))
+
+enum-known-read-3 : tie.Need-enum-known-read-3
+enum-known-read-3 c = search needs
+
+next-closing-requires : tie.Need-next-closing-requires
+next-closing-requires c κs = c .before .before .before .before .before .before .before .before .before .before .before .pre
+
+enum-known-read-4 : tie.Need-enum-known-read-4
+enum-known-read-4 c = search needs
+
+next-closing-requires-2 : tie.Need-next-closing-requires-2
+next-closing-requires-2 c κs = c .before .before .before .before .before .before .before .before .before .before .before .pre
+
+returns : tie.Need-returns
+returns c =
+    let r = c .before in
+    let f = r .before .before in
+    let p = f .before .before .before .before .before .pre in
+    same-follows (frame-read _ _ _ _ _ (matched-lists _ _ _ (p .0)) (told f ∙ r .read .given .1)) (follows-still _ _ _ _ _ _ (unread _ _ _ _) (p .1 .0) (p .1 .1 .0))
+
+same-length : tie.Need-same-length
+same-length c = search needs
+
+same-length-2 : tie.Need-same-length-2
+same-length-2 c = search needs
+
+same-length-3 : tie.Need-same-length-3
+same-length-3 c = search needs
+
+returns-2 : tie.Need-returns-2
+returns-2 c =
+    let w = c .before .before .before .before .before .before in
+    let r = w .before .before .before .before .before in
+    let f = r .before .before in
+    let p = f .before .before .before .before .before .pre in
+    same-follows (frame-read _ _ _ _ _ (matched-lists _ _ _ (p .0)) (told f ∙ r .read2 .given .1) ∙ packet-judged _ _ _ _ (p .1 .1 .1)) (w .next-packet .ensures)
+
+same-length-4 : tie.Need-same-length-4
+same-length-4 c = search needs
+
+same-length-5 : tie.Need-same-length-5
+same-length-5 c = search needs
+
+same-length-6 : tie.Need-same-length-6
+same-length-6 c = search needs
+
+returns-3 : tie.Need-returns-3
+returns-3 c =
+    let r = c .before .before .before .before .before in
+    let f = r .before .before in
+    let p = f .before .before .before .before .before .pre in
+    same-follows (frame-read _ _ _ _ _ (matched-lists _ _ _ (p .0)) (told f ∙ r .read3 .given .1) ∙ closing-judged _ _ _ _ (p .1 .1 .1)) (c .next-closing .ensures)
+
+same-length-7 : tie.Need-same-length-7
+same-length-7 c = search needs
+
+same-length-8 : tie.Need-same-length-8
+same-length-8 c = search needs
+
+same-length-9 : tie.Need-same-length-9
+same-length-9 c = search needs
+
+returns-4 : tie.Need-returns-4
+returns-4 c =
+    let r = c .before .before .before .before .before in
+    let f = r .before .before in
+    let p = f .before .before .before .before .before .pre in
+    same-follows (frame-read _ _ _ _ _ (matched-lists _ _ _ (p .0)) (told f ∙ r .read4 .given .1) ∙ closing-only _ _ _ _ ∙ closing-judged _ _ _ _ (p .1 .1 .1)) (c .next-closing2 .ensures)
+
+pub hear-next-spec : {M : Type 1} → statement M
+hear-next-spec =
+    tie.close
+    (tie.spec
+    read-frame-requires
+    enum-known-read
+    enum-known-read-2
+    next-packet-requires
+    enum-known-read-3
+    next-closing-requires
+    enum-known-read-4
+    next-closing-requires-2
+    returns
+    same-length
+    same-length-2
+    same-length-3
+    returns-2
+    same-length-4
+    same-length-5
+    same-length-6
+    returns-3
+    same-length-7
+    same-length-8
+    same-length-9
+    returns-4)

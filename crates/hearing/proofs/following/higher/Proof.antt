@@ -1,0 +1,20 @@
+-- `hearing::following::higher` meets its contract. Assumes nothing.
+use borrow.Author.Tests.{le-leb, lt-leb}
+use native.Mathlib.Omega.{arith}
+use borrow.Author.Needs.{needs}
+use Rattle.hearing.proofs.following.higher.Statement.{statement}
+use Rattle.hearing.proofs.following.higher.Tie as tie
+use Rattle.hearing.proofs.following.higher.Reads as reads
+use Rattle.hearing.proofs.following.higher.Lts as lts
+
+add-result : tie.Need-add-result
+add-result c = search needs
+
+returns : tie.Need-returns
+returns c = simp (le-leb _ _ (c .if1 .taken))
+
+returns-2 : tie.Need-returns-2
+returns-2 c = simp (lt-leb _ _ (c .if1 .left))
+
+pub higher-spec : {M : Type 1} → statement M
+higher-spec = tie.close (tie.spec add-result returns returns-2)

@@ -1,0 +1,32 @@
+-- What goes on beside a record that is known to be undamaged: the places in which packets were heard, kept up frame by frame, and what
+-- hearing the next frame promises. Assumes nothing.
+use Prim.Native.Nat.{ℕ, _+_}
+use mathlib.Core.List.{List}
+use lib.Dec.{ltb, leb}
+use Rattle.fields.specs.Choice.{_when_otherwise_}
+use Rattle.reception.specs.declared.Taken.{Taken}
+use Rattle.reception.specs.declared.Taken.the-variants.{Done, Refused}
+use Rattle.reception.specs.declared.Taking.{Taking}
+use Rattle.reception.specs.Hearing.{Outcome, Takes}
+use Rattle.reception.specs.Neighbours.{NoneBefore, NoneFrom}
+use Rattle.hearing.specs.declared.contradicting.Span.{Span}
+use Rattle.hearing.specs.declared.following.Following.{Following}
+
+-- the span with place k in it
+abbrev pub withPlace : Span → ℕ → Span
+withPlace s k = record { first = k when ltb k (s .first) otherwise s .first; end = k + 1 when leb (s .end) k otherwise s .end }
+
+-- a span changes only by a packet that is taken
+abbrev pub spanAfter : Taken → Span → ℕ → Span
+spanAfter Done s k = withPlace s k
+spanAfter (Refused x) s k = s
+
+-- an answer about packet k, and the span after it
+abbrev pub followed : Taking → Span → ℕ → Following
+followed t s k = record { answer = t .answer; head = t .head; span = spanAfter (t .answer) s k }
+
+-- the promise: that of hearing, and nothing was heard outside of the span
+pub record Follows (t : Outcome) (r : Following) (marks elapsed sizes : List ℕ) : Type 0 where
+  pub taken : Takes t (record { answer = r .answer; head = r .head }) marks elapsed sizes
+  pub before : NoneBefore marks (r .span .first)
+  pub from-end : NoneFrom marks (r .span .end)

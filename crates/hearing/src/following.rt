@@ -1,0 +1,178 @@
+// Hearing that goes on: for callers that know the record to be undamaged, since they made it fresh and heard into it by these
+// functions alone. What is kept beside the record makes the cost of a frame in order the same at every capacity.
+ghost use mathlib.Core.Path.{_≡_};
+ghost use mathlib.Core.Bool.{false};
+ghost use Prim.Native.Nat.{_+_, _≤_, _<_};
+ghost use lib.Dec.{ltb, leb};
+ghost use lib.ListN.{length};
+ghost use Rattle.fields.specs.Choice.{_when_otherwise_};
+ghost use Rattle.reception.specs.Damage.{Matched};
+ghost use Rattle.reception.specs.Neighbours.{NoneBefore, NoneFrom};
+ghost use Rattle.reception.specs.Hearing.{keptIn, damagedKept, hearPacket, hearClosing, hearFrame};
+ghost use Rattle.hearing.specs.Following.{withPlace, followed, Follows};
+use crate::contradicting::Span;
+use crate::taking::take_closing;
+use crate::taking::take_packet;
+use frame::ClosingPdu;
+use frame::DataPdu;
+use frame::Read;
+use reception::Head;
+use reception::Taken;
+use reception::Taking;
+
+// An answer, the head of the record after it, and the places in which packets were heard.
+pub struct Following {
+    pub answer: Taken,
+    pub head: Head,
+    pub span: Span,
+}
+
+// The span of an empty record.
+pub fn empty_span(capacity: usize) -> Span
+    ensures { λ r. ⌜ r ≡ record { first = capacity; end = 0 } ⌝ }
+{
+    Span {
+        first: capacity,
+        end: 0,
+    }
+}
+
+// The lower of two places.
+fn lower(k: usize, first: usize) -> usize
+    ensures { λ r. ⌜ r ≡ (k when ltb k first otherwise first) ⌝ }
+{
+    if k < first {
+        return k;
+    }
+    first
+}
+
+// The end after place k.
+fn higher(k: usize, end: usize) -> usize
+    requires { ⌜ k < 65536 ⌝ }
+    ensures { λ r. ⌜ r ≡ (k + 1 when leb end k otherwise end) ⌝ }
+{
+    if end <= k {
+        return k + 1;
+    }
+    end
+}
+
+// An answer about packet k, and the span after it.
+fn follow(t: Taking, span: Span, k: usize) -> Following
+    requires { ⌜ k < 65536 ⌝ }
+    ensures { λ r. ⌜ r ≡ followed t span k ⌝ }
+{
+    let head = t.head;
+    let answer = t.answer;
+    match answer {
+        Taken::Done => Following {
+            answer: Taken::Done,
+            head: head,
+            span: Span {
+                first: lower(k, span.first),
+                end: higher(k, span.end),
+            },
+        },
+        Taken::Refused(r) => Following {
+            answer: Taken::Refused(r),
+            head: head,
+            span: span,
+        },
+    }
+}
+
+// A data PDU.
+fn next_packet(
+    h: Head,
+    span: Span,
+    marks: &mut [u8],
+    elapsed: &mut [u32],
+    sizes: &mut [u16],
+    bearer: u32,
+    period: u32,
+    d: DataPdu,
+) -> Following
+    requires { ⌜ Matched (now marks) (now elapsed) (now sizes) ⌝ }
+    requires { ⌜ NoneBefore (now marks) (span .first) ⌝ }
+    requires { ⌜ NoneFrom (now marks) (span .end) ⌝ }
+    requires { ⌜ damagedKept (keptIn h (now marks) (now elapsed) (now sizes)) ≡ false ⌝ }
+    requires { ⌜ (d .number .0 < 65536) × (d .elapsed .0 < 4294967296) × (d .length .0 < 65536) ⌝ }
+    ensures { λ r. ⌜ Follows
+        (hearPacket (keptIn h (now (marks .entry)) (now (elapsed .entry)) (now (sizes .entry))) bearer period d)
+        r (now (marks .exit)) (now (elapsed .exit)) (now (sizes .exit)) ⌝ }
+{
+    let k = d.number.0 as usize;
+    let t = take_packet(h, span, marks, elapsed, sizes, bearer, period, d);
+    follow(t, span, k)
+}
+
+// A closing PDU.
+fn next_closing(
+    h: Head,
+    span: Span,
+    marks: &[u8],
+    elapsed: &[u32],
+    sizes: &[u16],
+    bearer: u32,
+    period: u32,
+    c: ClosingPdu,
+) -> Following
+    requires { ⌜ Matched (now marks) (now elapsed) (now sizes) ⌝ }
+    requires { ⌜ NoneBefore (now marks) (span .first) ⌝ }
+    requires { ⌜ NoneFrom (now marks) (span .end) ⌝ }
+    requires { ⌜ damagedKept (keptIn h (now marks) (now elapsed) (now sizes)) ≡ false ⌝ }
+    ensures { λ r. ⌜ Follows
+        (hearClosing (keptIn h (now (marks .entry)) (now (elapsed .entry)) (now (sizes .entry))) bearer period c)
+        r (now (marks .entry)) (now (elapsed .entry)) (now (sizes .entry)) ⌝ }
+{
+    let t = take_closing(h, span, marks, elapsed, sizes, bearer, period, c);
+    let head = t.head;
+    let answer = t.answer;
+    Following {
+        answer: answer,
+        head: head,
+        span: span,
+    }
+}
+
+// Takes the next frame into a record that is known to be undamaged.
+pub fn hear_next(
+    h: Head,
+    span: Span,
+    marks: &mut [u8],
+    elapsed: &mut [u32],
+    sizes: &mut [u16],
+    bearer: u32,
+    period: u32,
+    frame: &[u8],
+) -> Following
+    requires { ⌜ Matched (now marks) (now elapsed) (now sizes) ⌝ }
+    requires { ⌜ NoneBefore (now marks) (span .first) ⌝ }
+    requires { ⌜ NoneFrom (now marks) (span .end) ⌝ }
+    requires { ⌜ damagedKept (keptIn h (now marks) (now elapsed) (now sizes)) ≡ false ⌝ }
+    ensures { λ r. ⌜ Follows
+        (hearFrame (keptIn h (now (marks .entry)) (now (elapsed .entry)) (now (sizes .entry))) bearer period (now (frame .entry)))
+        r (now (marks .exit)) (now (elapsed .exit)) (now (sizes .exit)) ⌝ }
+{
+    let read = reader::read_frame(frame);
+    match read {
+        Read::Refused(r) => Following {
+            answer: Taken::Refused(r),
+            head: h,
+            span: span,
+        },
+        Read::Data(d) => next_packet(h, span, marks, elapsed, sizes, bearer, period, d),
+        Read::Closing(c) => next_closing(h, span, marks, elapsed, sizes, bearer, period, c),
+        Read::ClosingWithLengths(c) => next_closing(
+            h,
+            span,
+            marks,
+            elapsed,
+            sizes,
+            bearer,
+            period,
+            c,
+        ),
+    }
+}
