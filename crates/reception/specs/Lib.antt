@@ -1,7 +1,9 @@
 pub mod Adding
 pub mod Damage
 pub mod Hearing
+pub mod Joining
 pub mod Neighbours
 pub mod OneSequence
+pub mod Reporting
 pub mod Sendings
 pub mod Walk

@@ -26,3 +26,33 @@ pub struct Taking {
     pub answer: Taken,
     pub head: Head,
 }
+
+// The answer of a join: taken; the lowest packet number of the right record that contradicts, or 65,536 for its closing; or why refused.
+pub enum Joined {
+    Done,
+    Contradicted(u32),
+    Refused(Refusal),
+}
+
+// An answer, and the head of the left record after it.
+pub struct Joining {
+    pub answer: Joined,
+    pub head: Head,
+}
+
+// What was sent, heard and missing, in packets and in octets, and in how many gaps.
+pub struct Report {
+    pub sent: Packets,
+    pub sent_octets: Octets,
+    pub heard: Packets,
+    pub heard_octets: Octets,
+    pub missing: Packets,
+    pub missing_octets: Octets,
+    pub gaps: u32,
+}
+
+// A report, or why there is none.
+pub enum Reported {
+    Done(Report),
+    Refused(Refusal),
+}

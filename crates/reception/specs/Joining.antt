@@ -1,0 +1,120 @@
+-- Two records of one sequence joined: what comes out, and what contradicts (document 01, "Joining: 14, 13, 9, 11" and "The reception
+-- record"). Assumes nothing.
+use Prim.Native.Nat.{ℕ, zero, suc}
+use mathlib.Core.Path.{_≡_}
+use mathlib.Core.Bool.{Bool, cond, not, _||_, _&&_}
+use mathlib.Core.List.{List, [], _∷_}
+use lib.Dec.{ltb, eqb}
+use lib.ListN.{length}
+use Rattle.units.specs.Refusals.{refusing, otherSequence, contradiction, recordDamaged, capacitiesDiffer}
+use Rattle.fields.specs.Choice.{_when_otherwise_}
+use Rattle.frame.specs.Paper.{CountPaper}
+use Rattle.reception.specs.declared.Head.{Head}
+use Rattle.reception.specs.declared.Joined.{Joined}
+use Rattle.reception.specs.declared.Joined.the-variants.{Done, Contradicted, Refused}
+use Rattle.reception.specs.declared.Joining.{Joining}
+use Rattle.reception.specs.Sendings.{Held}
+use Rattle.reception.specs.Walk.{isHeard}
+use Rattle.reception.specs.Adding.{packetContradicts, closingContradicts}
+use Rattle.reception.specs.Hearing.{Kept, keptIn, heldBy, unmatched, damagedKept, otherKey}
+
+-- what either heard: at a place that the left heard, what the left holds, elsewhere what the right does
+abbrev pub union : Held → Held → Held
+union a b =
+    record {
+      capacity = a .capacity;
+      mark = λ k. cond (isHeard a k) (a .mark k) (b .mark k);
+      elapsed = λ k. cond (isHeard a k) (a .elapsed k) (b .elapsed k);
+      size = λ k. cond (isHeard a k) (a .size k) (b .size k);
+      closed = a .closed || b .closed;
+      count = cond (a .closed) (a .count) (b .count);
+      total = cond (a .closed) (a .total) (b .total);
+    }
+
+-- the same of lists: the left's number where its mark is heard, elsewhere the right's
+unfoldable pub chosen : List ℕ → List ℕ → List ℕ → List ℕ
+chosen [] left right = left
+chosen (m ∷ marks) [] right = []
+chosen (m ∷ marks) (a ∷ left) [] = a ∷ left
+chosen (m ∷ marks) (a ∷ left) (b ∷ right) = cond (eqb m 1) a b ∷ chosen marks left right
+
+-- and of heads: the left's key, and the closing that either heard
+abbrev pub joinedHead : Head → Head → Head
+joinedHead a b =
+    record {
+      bearer = a .bearer;
+      period = a .period;
+      stamp = a .stamp;
+      closed = a .closed || b .closed;
+      count = cond (a .closed) (a .count) (b .count);
+      total = cond (a .closed) (a .total) (b .total);
+    }
+
+abbrev pub joinedKept : Kept → Kept → Kept
+joinedKept a b =
+    keptIn (joinedHead (a .head) (b .head)) (chosen (a .marks) (a .marks) (b .marks)) (chosen (a .marks) (a .elapsed) (b .elapsed))
+    (chosen (a .marks) (a .sizes) (b .sizes))
+
+-- packet k of the right record "alone contradicts the left"
+abbrev pub packetOff : Held → Held → ℕ → Bool
+packetOff a b k = isHeard b k && packetContradicts a k (b .elapsed k) (b .size k)
+
+-- so does its closing
+abbrev pub ownClosingOff : Held → Held → Bool
+ownClosingOff a b = b .closed && closingContradicts a (b .count) (b .total)
+
+-- "the lowest packet number in the right record that alone contradicts", among n places from k on; the place behind them where none does
+unfoldable pub lowestOff : Held → Held → ℕ → ℕ → ℕ
+lowestOff a b zero k = k
+lowestOff a b (suc n) k = cond (packetOff a b k) k (lowestOff a b n (suc k))
+
+abbrev pub lowest : Held → Held → ℕ
+lowest a b = lowestOff a b (a .capacity) 0
+
+-- an answer, and the left record after it
+pub record JoinOutcome : Type 0 where
+  pub answer : Joined
+  pub kept : Kept
+
+abbrev pub refusesJoin : Kept → ℕ → JoinOutcome
+refusesJoin k n = record { answer = Refused (refusing n); kept = k }
+
+-- refusal 11 and the number that it names
+abbrev pub contradicts : Kept → ℕ → JoinOutcome
+contradicts k n = record { answer = Contradicted n; kept = k }
+
+abbrev pub joins : Kept → JoinOutcome
+joins k = record { answer = Done; kept = k }
+
+-- refusal 14, of two records
+abbrev pub capacitiesOff : Kept → Kept → Bool
+capacitiesOff a b = unmatched a || (unmatched b || not (eqb (length (a .marks)) (length (b .marks))))
+
+-- refusal 9, of two records
+abbrev pub otherRecord : Kept → Kept → Bool
+otherRecord a b = otherKey (a .head) (b .head .bearer) (b .head .period) (b .head .stamp)
+
+-- "or 65,536 where only its closing does"
+abbrev pub closingNamed : ℕ
+closingNamed = 65536
+
+-- "Joining writes to the left record and only reads the right"; "Joining: 14, 13, 9, 11"
+unfoldable pub joinRecords : Kept → Kept → JoinOutcome
+joinRecords a b =
+    refusesJoin a capacitiesDiffer when capacitiesOff a b otherwise
+    refusesJoin a recordDamaged when damagedKept a || damagedKept b otherwise
+    refusesJoin a otherSequence when otherRecord a b otherwise
+    contradicts a (lowest (heldBy a) (heldBy b)) when ltb (lowest (heldBy a) (heldBy b)) (length (a .marks)) otherwise
+    contradicts a closingNamed when ownClosingOff (heldBy a) (heldBy b) otherwise
+    joins (joinedKept a b)
+
+-- document 01's number, whether it was accepted, and what refusal 11 names
+unfoldable pub joinedPaper : Joined → CountPaper
+joinedPaper Done = record { number = 0; accepted = 1; count = 0 }
+joinedPaper (Contradicted n) = record { number = contradiction; accepted = 0; count = n }
+joinedPaper (Refused r) = record { number = r .number; accepted = 0; count = 0 }
+
+-- the promise: answer, head and every place of the left's lists are as t says
+pub record Joins (t : JoinOutcome) (r : Joining) (marks elapsed sizes : List ℕ) : Type 0 where
+  pub says : joinedPaper (r .answer) ≡ joinedPaper (t .answer)
+  pub leaves : keptIn (r .head) marks elapsed sizes ≡ t .kept
