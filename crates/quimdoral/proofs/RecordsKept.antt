@@ -1,0 +1,123 @@
+-- How numbers are read as a head, and how answers about records meet the promise of the exported functions. Assumes nothing.
+use Prim.Native.Nat.{ℕ, _≤_, _<_}
+use mathlib.Core.Path.{_≡_, refl, sym, ap, _∙_}
+use mathlib.Core.Bool.{Bool, true, false, cond}
+use mathlib.Core.List.{List, [], _∷_}
+use native.Mathlib.Omega.{arith}
+use lib.Dec.{ltb, eqb}
+use lib.ListN.{length, getD, set}
+use borrow.Author.Tests.{lt-ltb, le-ltb}
+use Rattle.units.specs.declared.Refusal.{Refusal}
+use Rattle.units.specs.Refusals.{capacitiesDiffer}
+use Rattle.fields.specs.Choice.{_when_otherwise_}
+use Rattle.fields.specs.Runs.{front}
+use Rattle.frame.specs.Paper.{CountPaper}
+use Rattle.reception.specs.declared.Head.{Head}
+use Rattle.reception.specs.declared.Taken.{Taken}
+use Rattle.reception.specs.declared.Taken.the-variants.{Done, Refused}
+use Rattle.reception.specs.declared.Taking.{Taking}
+use Rattle.reception.specs.Hearing.{Kept, Outcome, takenPaper, Takes}
+use Rattle.quimdoral.specs.Records.{widest, noHead, headOf, numbersOf, headAfter, Keeps}
+
+-- numbers that are no head's, the first of them that is too wide
+module _ (ns : List ℕ) where
+  pub wide-bearer : widest < getD ns 0 0 → headOf ns ≡ noHead
+  unfolding headOf
+  wide-bearer h = rw (lt-ltb widest (getD ns 0 0) h) refl
+
+  module _ (b : getD ns 0 0 ≤ widest) where
+    pub wide-period : widest < getD ns 1 0 → headOf ns ≡ noHead
+    unfolding headOf
+    wide-period h = rw (le-ltb widest (getD ns 0 0) b, lt-ltb widest (getD ns 1 0) h) refl
+
+    module _ (p : getD ns 1 0 ≤ widest) where
+      pub wide-stamp : widest < getD ns 2 0 → headOf ns ≡ noHead
+      unfolding headOf
+      wide-stamp h = rw (le-ltb widest (getD ns 0 0) b, le-ltb widest (getD ns 1 0) p, lt-ltb widest (getD ns 2 0) h) refl
+
+      module _ (s : getD ns 2 0 ≤ widest) where
+        pub odd-closed : 1 < getD ns 3 0 → headOf ns ≡ noHead
+        unfolding headOf
+        odd-closed h =
+            rw (le-ltb widest (getD ns 0 0) b, le-ltb widest (getD ns 1 0) p, le-ltb widest (getD ns 2 0) s, lt-ltb 1 (getD ns 3 0) h) refl
+
+        module _ (c : getD ns 3 0 ≤ 1) where
+          pub wide-count : widest < getD ns 4 0 → headOf ns ≡ noHead
+          unfolding headOf
+          wide-count h =
+              rw (le-ltb widest (getD ns 0 0) b, le-ltb widest (getD ns 1 0) p, le-ltb widest (getD ns 2 0) s, le-ltb 1 (getD ns 3 0) c, lt-ltb widest (getD ns 4 0) h) refl
+
+          pub a-head : getD ns 4 0 ≤ widest
+              → headOf ns
+              ≡ record {
+                bearer = getD ns 0 0;
+                period = getD ns 1 0;
+                stamp = getD ns 2 0;
+                closed = eqb (getD ns 3 0) 1;
+                count = record { 0 = getD ns 4 0 };
+                total = record { 0 = getD ns 5 0 };
+              }
+          unfolding headOf
+          a-head n =
+              rw (le-ltb widest (getD ns 0 0) b, le-ltb widest (getD ns 1 0) p, le-ltb widest (getD ns 2 0) s, le-ltb 1 (getD ns 3 0) c, le-ltb widest (getD ns 4 0) n) refl
+
+-- six stores are six numbers in front
+pub six : (s : List ℕ) (a b c d e f : ℕ) → 6 ≤ length s → set (set (set (set (set (set s 0 a) 1 b) 2 c) 3 d) 4 e) 5 f ≡ front s (a ∷ b ∷ c ∷ d ∷ e ∷ f ∷ [])
+unfolding front
+six [] a b c d e f h = absurd (omega arith)
+six (x0 ∷ []) a b c d e f h = absurd (omega arith)
+six (x0 ∷ x1 ∷ []) a b c d e f h = absurd (omega arith)
+six (x0 ∷ x1 ∷ x2 ∷ []) a b c d e f h = absurd (omega arith)
+six (x0 ∷ x1 ∷ x2 ∷ x3 ∷ []) a b c d e f h = absurd (omega arith)
+six (x0 ∷ x1 ∷ x2 ∷ x3 ∷ x4 ∷ []) a b c d e f h = absurd (omega arith)
+six (x0 ∷ x1 ∷ x2 ∷ x3 ∷ x4 ∷ x5 ∷ s) a b c d e f h = refl
+
+-- a list too short for a head
+pub no-room : (old : List ℕ) (k : Kept) (t : Outcome) → length old < 6 → Keeps old k t capacitiesDiffer old (k .marks) (k .elapsed) (k .sizes)
+no-room old k t h =
+    let q = lt-ltb (length old) 6 h in
+    record { says = rw q refl; leaves-head = rw q refl; leaves-marks = rw q refl; leaves-elapsed = rw q refl; leaves-sizes = rw q refl }
+
+module _ (old : List ℕ) (k : Kept) (t : Outcome) (r : Taking) (marks elapsed sizes : List ℕ) (h : 6 ≤ length old) (p : Takes t r marks elapsed sizes) where
+  room : ltb (length old) 6 ≡ false
+  room = le-ltb (length old) 6 h
+
+  -- what the lists hold after, of a promise that is kept
+  kept-as : (x : ℕ) (new : List ℕ) → x ≡ takenPaper (t .answer) .number → new ≡ headAfter (t .answer) old (t .kept .head) → Keeps old k t x new marks elapsed sizes
+  unfolding room
+  kept-as x new e l =
+      record {
+        says = e ∙ rw (le-ltb (length old) 6 h) refl;
+        leaves-head = l ∙ rw (le-ltb (length old) 6 h) refl;
+        leaves-marks = ap (λ (y : Kept). y .marks) (p .leaves) ∙ rw (le-ltb (length old) 6 h) refl;
+        leaves-elapsed = ap (λ (y : Kept). y .elapsed) (p .leaves) ∙ rw (le-ltb (length old) 6 h) refl;
+        leaves-sizes = ap (λ (y : Kept). y .sizes) (p .leaves) ∙ rw (le-ltb (length old) 6 h) refl;
+      }
+
+  -- refused, the head's list stays as it is
+  pub refused-kept : (x : Refusal) → r .answer ≡ Refused x → Keeps old k t (x .number) old marks elapsed sizes
+  unfolding takenPaper
+  refused-kept x e = go (t .answer) refl
+    where
+      q : takenPaper (Refused x) ≡ takenPaper (t .answer)
+      q = ap takenPaper (sym e) ∙ p .says
+
+      go : (a : Taken) → t .answer ≡ a → Keeps old k t (x .number) old marks elapsed sizes
+      go Done f =
+          let z : _≡_ {A = ℕ} 0 1 = ap (λ (y : CountPaper). y .accepted) (q ∙ ap takenPaper f) in
+          absurd (omega (arith, z))
+      go (Refused y) f = kept-as (x .number) old (ap (λ (y : CountPaper). y .number) q) (rw f refl)
+
+  -- taken, it has the head's numbers in front
+  pub taken-kept : (new : List ℕ) → r .answer ≡ Done → new ≡ front old (numbersOf (r .head)) → Keeps old k t 0 new marks elapsed sizes
+  unfolding takenPaper
+  taken-kept new e l = go (t .answer) refl
+    where
+      q : takenPaper Done ≡ takenPaper (t .answer)
+      q = ap takenPaper (sym e) ∙ p .says
+
+      go : (a : Taken) → t .answer ≡ a → Keeps old k t 0 new marks elapsed sizes
+      go Done f = kept-as 0 new (ap (λ (y : CountPaper). y .number) q) (l ∙ rw f (ap (λ (y : Kept). front old (numbersOf (y .head))) (p .leaves)))
+      go (Refused y) f =
+          let z : _≡_ {A = ℕ} 1 0 = ap (λ (y : CountPaper). y .accepted) (q ∙ ap takenPaper f) in
+          absurd (omega (arith, z))

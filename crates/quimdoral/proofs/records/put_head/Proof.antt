@@ -1,0 +1,70 @@
+-- `quimdoral::records::put_head` meets its contract. Assumes nothing.
+use lib.ListN.{length-set}
+use denote.Ref.{now}
+use Rattle.quimdoral.proofs.RecordsKept.{six}
+use native.Mathlib.Omega.{arith}
+use borrow.Author.Needs.{needs}
+use Rattle.quimdoral.proofs.records.put_head.Statement.{statement}
+use Rattle.quimdoral.proofs.records.put_head.Tie as tie
+use Rattle.quimdoral.proofs.records.put_head.Reads as reads
+use Rattle.quimdoral.proofs.records.put_head.Lts as lts
+use Rattle.quimdoral.proofs.records.closed_number.Reads as closed-number-reads
+
+closed-number-requires : tie.Need-closed-number-requires
+closed-number-requires c κs = search needs
+
+cast-numbers : tie.Need-cast-numbers
+cast-numbers c = search needs
+
+slice-write-numbers : tie.Need-slice-write-numbers
+slice-write-numbers c = search needs
+
+cast-numbers-2 : tie.Need-cast-numbers-2
+cast-numbers-2 c = search needs
+
+slice-write-numbers-2 : tie.Need-slice-write-numbers-2
+slice-write-numbers-2 c = simp length-set (omega arith)
+
+cast-numbers-3 : tie.Need-cast-numbers-3
+cast-numbers-3 c = search needs
+
+slice-write-numbers-3 : tie.Need-slice-write-numbers-3
+slice-write-numbers-3 c = simp length-set (omega arith)
+
+slice-write-numbers-4 : tie.Need-slice-write-numbers-4
+slice-write-numbers-4 c = simp length-set (omega arith)
+
+cast-numbers-4 : tie.Need-cast-numbers-4
+cast-numbers-4 c = search needs
+
+slice-write-numbers-5 : tie.Need-slice-write-numbers-5
+slice-write-numbers-5 c = simp length-set (omega arith)
+
+slice-write-numbers-6 : tie.Need-slice-write-numbers-6
+slice-write-numbers-6 c = simp length-set (omega arith)
+
+same-length : tie.Need-same-length
+same-length c = simp length-set
+
+returns : tie.Need-returns
+returns c =
+    let s = c .before .before .before .before .before .before in
+    rw (c .before .before .before .before .closed-number .ensures) (six _ _ _ _ _ _ _ (s .pre))
+
+pub put-head-spec : {M : Type 1} → statement M
+put-head-spec =
+    tie.close
+    (tie.spec
+    closed-number-requires
+    cast-numbers
+    slice-write-numbers
+    cast-numbers-2
+    slice-write-numbers-2
+    cast-numbers-3
+    slice-write-numbers-3
+    slice-write-numbers-4
+    cast-numbers-4
+    slice-write-numbers-5
+    slice-write-numbers-6
+    same-length
+    returns)

@@ -1,0 +1,57 @@
+-- A reception record as C and Rust keep it: the head in a list of numbers, beside the three lists; and what the exported functions
+-- promise of all four. Assumes nothing.
+use Prim.Native.Nat.{ℕ}
+use mathlib.Core.Path.{_≡_}
+use mathlib.Core.Bool.{false, cond}
+use mathlib.Core.List.{List, [], _∷_}
+use lib.ListN.{length, getD}
+use lib.Dec.{ltb, eqb}
+use Rattle.units.specs.Refusals.{capacitiesDiffer}
+use Rattle.fields.specs.Choice.{_when_otherwise_}
+use Rattle.fields.specs.Runs.{front}
+use Rattle.reception.specs.declared.Head.{Head}
+use Rattle.reception.specs.declared.Taken.{Taken}
+use Rattle.reception.specs.declared.Taken.the-variants.{Done, Refused}
+use Rattle.reception.specs.Hearing.{Kept, Outcome, takenPaper}
+
+-- the largest number of 32 bits
+abbrev pub widest : ℕ
+widest = 4294967295
+
+-- the head that stands for numbers that are no head's: no frame is taken into it, since its stamp is above 59,999
+abbrev pub noHead : Head
+noHead =
+    record { bearer = 0; period = 0; stamp = widest; closed = false; count = record { 0 = 0 }; total = record { 0 = 0 } }
+
+-- bearer, period, stamp, 1 where closed and 0 where not, the closing's packets, its octets
+unfoldable pub headOf : List ℕ → Head
+headOf ns =
+    noHead when ltb widest (getD ns 0 0) otherwise
+    noHead when ltb widest (getD ns 1 0) otherwise
+    noHead when ltb widest (getD ns 2 0) otherwise
+    noHead when ltb 1 (getD ns 3 0) otherwise
+    noHead when ltb widest (getD ns 4 0) otherwise
+    record {
+      bearer = getD ns 0 0;
+      period = getD ns 1 0;
+      stamp = getD ns 2 0;
+      closed = eqb (getD ns 3 0) 1;
+      count = record { 0 = getD ns 4 0 };
+      total = record { 0 = getD ns 5 0 };
+    }
+
+abbrev pub numbersOf : Head → List ℕ
+numbersOf h = h .bearer ∷ h .period ∷ h .stamp ∷ cond (h .closed) 1 0 ∷ h .count .0 ∷ h .total .0 ∷ []
+
+-- the list of a head after an answer: the head's numbers in front; or, refused, what it held
+abbrev pub headAfter : Taken → List ℕ → Head → List ℕ
+headAfter Done old h = front old (numbersOf h)
+headAfter (Refused r) old h = old
+
+-- the promise about a record k whose head stands in the list old: 14 where that has fewer than six numbers, otherwise what t says
+pub record Keeps (old : List ℕ) (k : Kept) (t : Outcome) (r : ℕ) (new marks elapsed sizes : List ℕ) : Type 0 where
+  pub says : r ≡ (capacitiesDiffer when ltb (length old) 6 otherwise takenPaper (t .answer) .number)
+  pub leaves-head : new ≡ (old when ltb (length old) 6 otherwise headAfter (t .answer) old (t .kept .head))
+  pub leaves-marks : marks ≡ (k .marks when ltb (length old) 6 otherwise t .kept .marks)
+  pub leaves-elapsed : elapsed ≡ (k .elapsed when ltb (length old) 6 otherwise t .kept .elapsed)
+  pub leaves-sizes : sizes ≡ (k .sizes when ltb (length old) 6 otherwise t .kept .sizes)
