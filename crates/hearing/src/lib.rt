@@ -2,7 +2,7 @@
 pub mod contradicting;
 pub mod following;
 pub mod looking;
-mod taking;
+pub mod taking;
 
 use contradicting::Span;
 use frame::ClosingPdu;

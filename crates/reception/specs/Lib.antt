@@ -6,4 +6,5 @@ pub mod Neighbours
 pub mod OneSequence
 pub mod Reporting
 pub mod Sendings
+pub mod Several
 pub mod Walk

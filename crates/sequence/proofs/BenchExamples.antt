@@ -25,7 +25,7 @@ use Rattle.reception.proofs.HearingContradicts.{contradicting-packet}
 use Rattle.reception.proofs.HearingUndamaged.{stays-sound, empty-sound}
 use Rattle.reception.proofs.KeptAsHeld.{held-packet, held-empty, empty-matched}
 use Rattle.reception.proofs.WhatHearingAdds.{Sound, key-owned, data-taken}
-use Rattle.sequence.specs.Pieces.{answers}
+use Rattle.reception.specs.Several.{answers}
 
 -- a data PDU of stamp 0
 abbrev pduOf : ℕ → ℕ → List ℕ → DataPdu

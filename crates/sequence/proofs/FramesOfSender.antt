@@ -29,7 +29,8 @@ use Rattle.sender.proofs.StaysUndamaged.{open-undamaged, data-undamaged}
 use Rattle.sender.proofs.Undamaged.{undamaged, few-octets}
 use Rattle.reception.specs.declared.Taken.the-variants.{Done as Accepted}
 use Rattle.reception.specs.Hearing.{emptyKept}
-use Rattle.sequence.specs.Pieces.{Piece, frameOf, PieceOf, PiecesOf, lengthsOf, hearAll, answers, SameFrames}
+use Rattle.reception.specs.Several.{hearAll, answers}
+use Rattle.sequence.specs.Pieces.{Piece, frameOf, PieceOf, PiecesOf, lengthsOf, SameFrames}
 use Rattle.sequence.specs.Pieces.Piece.{DataOf, PlainClosing, ListedClosing}
 use Rattle.sequence.specs.Pieces.PieceOf.{with-lengths}
 use Rattle.sequence.proofs.PiecesRead.{Carried, count-is, octets-are}

@@ -22,7 +22,8 @@ use Rattle.reception.proofs.HearingUndamaged.{stays-sound, empty-sound}
 use Rattle.reception.proofs.KeptAsHeld.{held-packet, held-empty}
 use Rattle.reception.proofs.SumsBefore.{before}
 use Rattle.reception.proofs.WhatHearingAdds.{Sound, sound-lists, key-owned, data-taken, ReadAsClosing, closing-taken}
-use Rattle.sequence.specs.Pieces.{Piece, frameOf, partOf, PieceOf, PiecesOf, lengthsOf, hearAll, answers}
+use Rattle.reception.specs.Several.{hearAll, answers}
+use Rattle.sequence.specs.Pieces.{Piece, frameOf, partOf, PieceOf, PiecesOf, lengthsOf}
 use Rattle.sequence.specs.Pieces.Piece.{DataOf, PlainClosing, ListedClosing}
 use Rattle.sequence.specs.Pieces.PieceOf.{a-packet, a-closing, with-lengths}
 use Rattle.sequence.specs.Pieces.PiecesOf.{none, more}

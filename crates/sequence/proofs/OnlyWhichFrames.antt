@@ -16,7 +16,8 @@ use Rattle.reception.proofs.AnyOrder.{only-which-came, same-is-one}
 use Rattle.reception.proofs.KeptAsHeld.{held-packet, held-empty, SameKey, told-by-held}
 use Rattle.reception.proofs.SumsBefore.{before}
 use Rattle.reception.proofs.WhatHearingAdds.{sound-lists, own-key}
-use Rattle.sequence.specs.Pieces.{Piece, frameOf, partOf, PieceOf, PiecesOf, lengthsOf, hearAll, SameFrames}
+use Rattle.reception.specs.Several.{hearAll}
+use Rattle.sequence.specs.Pieces.{Piece, frameOf, partOf, PieceOf, PiecesOf, lengthsOf, SameFrames}
 use Rattle.sequence.specs.Pieces.PieceOf.{a-packet, a-closing, with-lengths}
 use Rattle.sequence.specs.Pieces.PiecesOf.{none, more}
 use Rattle.sequence.proofs.PiecesRead.{Carried}

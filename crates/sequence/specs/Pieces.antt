@@ -8,8 +8,6 @@ use lib.ListN.{length, getD}
 use Rattle.frame.specs.Counts.{listWrong}
 use Rattle.frame.specs.Writing.{closingFrame, lengthsFrame}
 use Rattle.sender.specs.Sequence.{dataFrames, countOf, octetsOf, closingAfter}
-use Rattle.reception.specs.declared.Taken.{Taken}
-use Rattle.reception.specs.Hearing.{Kept, hearFrame}
 use Rattle.reception.specs.OneSequence.{Part, came, closingCame}
 use Rattle.reception.specs.OneSequence.Part.{Packet, Closing}
 
@@ -45,16 +43,6 @@ pub data PiecesOf (payloads : List (List ℕ)) : List Piece → Type 0 where
 -- the lengths of the payloads, as a sending
 abbrev pub lengthsOf : List (List ℕ) → List ℕ
 lengthsOf payloads = map length payloads
-
--- the record after some frames, in the order in which they came
-unfoldable pub hearAll : Kept → ℕ → ℕ → List (List ℕ) → Kept
-hearAll k bearer period [] = k
-hearAll k bearer period (f ∷ fs) = hearAll (hearFrame k bearer period f .kept) bearer period fs
-
--- and the answer to each
-unfoldable pub answers : Kept → ℕ → ℕ → List (List ℕ) → List Taken
-answers k bearer period [] = []
-answers k bearer period (f ∷ fs) = hearFrame k bearer period f .answer ∷ answers (hearFrame k bearer period f .kept) bearer period fs
 
 -- the same packets are among two lists of frames, and a closing is among both or among neither
 pub record SameFrames (xs ys : List Piece) : Type 0 where

@@ -1,0 +1,45 @@
+-- Several frames heard one after another, and frames that stand in one row of octets. Assumes nothing.
+use Prim.Native.Nat.{ℕ, _-_}
+use mathlib.Core.Path.{_≡_}
+use mathlib.Core.List.{List, [], _∷_, map}
+use lib.Dec.{ltb}
+use lib.ListN.{length, take, drop}
+use Rattle.units.specs.Limits.{lastStamp}
+use Rattle.units.specs.Refusals.{stampTooHigh, noRoom, capacitiesDiffer}
+use Rattle.fields.specs.Choice.{_when_otherwise_}
+use Rattle.fields.specs.Runs.{front}
+use Rattle.reception.specs.declared.Taken.{Taken}
+use Rattle.reception.specs.declared.Taken.the-variants.{Done, Refused}
+use Rattle.reception.specs.Hearing.{Kept, Outcome, refuses, takes, unused, unmatched, emptyKept, hearFrame, takenPaper}
+
+-- the record after some frames, in the order in which they came
+unfoldable pub hearAll : Kept → ℕ → ℕ → List (List ℕ) → Kept
+hearAll k bearer period [] = k
+hearAll k bearer period (f ∷ fs) = hearAll (hearFrame k bearer period f .kept) bearer period fs
+
+-- and the answer to each
+unfoldable pub answers : Kept → ℕ → ℕ → List (List ℕ) → List Taken
+answers k bearer period [] = []
+answers k bearer period (f ∷ fs) = hearFrame k bearer period f .answer ∷ answers (hearFrame k bearer period f .kept) bearer period fs
+
+-- the refusal's number, or 0
+abbrev pub numberOf : Taken → ℕ
+numberOf t = takenPaper t .number
+
+-- the frames in a row of octets, from a place on, each by the place where it ends; one that would end before it begins is empty
+unfoldable pub framesIn : List ℕ → ℕ → List ℕ → List (List ℕ)
+framesIn octets from [] = []
+framesIn octets from (e ∷ ends) = take (e - from) (drop from octets) ∷ framesIn octets e ends
+
+-- a fresh record that hears them, with room for so many answers: "Fresh record: 14, 5", then 12
+unfoldable pub hearSequence : ℕ → ℕ → ℕ → Kept → List (List ℕ) → ℕ → Outcome
+hearSequence bearer period stamp old frames room =
+    refuses old capacitiesDiffer when unmatched old otherwise
+    refuses old stampTooHigh when ltb lastStamp stamp otherwise
+    refuses old noRoom when ltb room (length frames) otherwise
+    takes (hearAll (emptyKept bearer period stamp (length (old .marks))) bearer period frames)
+
+-- the list of numbers after: one for each frame in front; or, refused, what it held
+abbrev pub numbersAfter : Taken → List Taken → List ℕ → List ℕ
+numbersAfter Done ts old = front old (map numberOf ts)
+numbersAfter (Refused r) ts old = old

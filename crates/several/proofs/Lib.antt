@@ -1,0 +1,3 @@
+pub mod HeardSoFar
+pub mod PartOfRow
+pub mod WholeSequence

@@ -1,0 +1,153 @@
+// A whole sequence heard at once: an empty record, and frames that stand in one row of octets. The record is never judged again, so
+// the cost is that of the frames and of emptying the record.
+use hearing::following::empty_span;
+use hearing::following::hear_next;
+use hearing::taking::clear;
+use hearing::taking::lists_differ;
+use hearing::taking::open_head;
+use hearing::taking::refused;
+use reception::Head;
+use reception::Taken;
+use reception::Taking;
+use units::limits::LAST_STAMP;
+use units::refusals::CAPACITIES_DIFFER;
+use units::refusals::NO_ROOM;
+use units::refusals::STAMP_TOO_HIGH;
+ghost use mathlib.Core.Path.{_≡_};
+ghost use mathlib.Core.Bool.{false};
+ghost use Prim.Native.Nat.{_-_, _≤_, min};
+ghost use lib.ListN.{length};
+ghost use Rattle.reception.specs.Damage.{Matched};
+ghost use Rattle.reception.specs.Neighbours.{NoneBefore, NoneFrom};
+ghost use Rattle.reception.specs.Hearing.{keptIn, damagedKept, unused, emptyKept};
+ghost use Rattle.reception.specs.Several.{answers, numberOf, framesIn, hearSequence};
+ghost use Rattle.several.specs.Rest.{HearsAll, HearsSequence};
+
+// The refusal's number, or 0.
+fn number_of(t: Taken) -> u8
+    ensures { λ r. ⌜ r ≡ numberOf t ⌝ }
+{
+    match t {
+        Taken::Done => 0,
+        Taken::Refused(r) => r.number,
+    }
+}
+
+// A place in a row of octets.
+fn place_of(x: u32) -> usize
+    ensures { λ r. ⌜ r ≡ x ⌝ }
+{
+    x as usize
+}
+
+// Where a part that begins at a place begins in n octets.
+fn begin_in(from: usize, n: usize) -> usize
+    ensures { λ r. ⌜ r ≡ min from n ⌝ }
+{
+    if from < n {
+        return from;
+    }
+    n
+}
+
+// Where it ends: not before it begins, and not behind the octets.
+fn end_in(begin: usize, end: usize, n: usize) -> usize
+    requires { ⌜ begin ≤ n ⌝ }
+    ensures { λ r. ⌜ (begin ≤ r) × (r ≤ n) × (r - begin ≡ min (end - begin) (n - begin)) ⌝ }
+{
+    if end < begin {
+        return begin;
+    }
+    if n < end {
+        return n;
+    }
+    end
+}
+
+// Hears frames into an empty record.
+fn hear_frames(
+    h: Head,
+    bearer: u32,
+    period: u32,
+    marks: &mut [u8],
+    elapsed: &mut [u32],
+    sizes: &mut [u16],
+    octets: &[u8],
+    ends: &[u32],
+    numbers: &mut [u8],
+) -> Head
+    requires { ⌜ Matched (now marks) (now elapsed) (now sizes) ⌝ }
+    requires { ⌜ NoneBefore (now marks) (length (now marks)) ⌝ }
+    requires { ⌜ NoneFrom (now marks) 0 ⌝ }
+    requires { ⌜ damagedKept (keptIn h (now marks) (now elapsed) (now sizes)) ≡ false ⌝ }
+    requires { ⌜ length (now ends) ≤ length (now numbers) ⌝ }
+    ensures { λ r. ⌜ HearsAll (keptIn h (now (marks .entry)) (now (elapsed .entry)) (now (sizes .entry))) bearer period
+        (framesIn (now (octets .entry)) 0 (now (ends .entry))) (now (numbers .entry))
+        r (now (marks .exit)) (now (elapsed .exit)) (now (sizes .exit)) (now (numbers .exit)) ⌝ }
+{
+    let mut head = h;
+    let mut span = empty_span(marks.len());
+    let mut from: usize = 0;
+    let mut i: usize = 0;
+    while i < ends.len() {
+        let next = i + 1;
+        let end = place_of(ends[i]);
+        let begin = begin_in(from, octets.len());
+        let part = &octets[begin..end_in(begin, end, octets.len())];
+        let t = hear_next(head, span, marks, elapsed, sizes, bearer, period, part);
+        let answer = t.answer;
+        numbers[i] = number_of(answer);
+        head = t.head;
+        span = t.span;
+        from = end;
+        i = next;
+    }
+    head
+}
+
+// Hears the frames of a row of octets, each given by the place where it ends, into an empty record of a key. Answers to each frame go
+// in front of a lent list: 0, or a refusal's number.
+pub fn hear_sequence(
+    bearer: u32,
+    period: u32,
+    stamp: u32,
+    marks: &mut [u8],
+    elapsed: &mut [u32],
+    sizes: &mut [u16],
+    octets: &[u8],
+    ends: &[u32],
+    numbers: &mut [u8],
+) -> Taking
+    ensures { λ r. ⌜ HearsSequence
+        (hearSequence bearer period stamp (unused (now (marks .entry)) (now (elapsed .entry)) (now (sizes .entry)))
+        (framesIn (now (octets .entry)) 0 (now (ends .entry))) (length (now (numbers .entry))))
+        (answers (emptyKept bearer period stamp (length (now (marks .entry)))) bearer period (framesIn (now (octets .entry)) 0 (now (ends .entry))))
+        (now (numbers .entry)) r (now (marks .exit)) (now (elapsed .exit)) (now (sizes .exit)) (now (numbers .exit)) ⌝ }
+{
+    if lists_differ(marks.len(), elapsed.len(), sizes.len()) {
+        return refused(open_head(0, 0, 0), CAPACITIES_DIFFER);
+    }
+    if LAST_STAMP < stamp as u64 {
+        return refused(open_head(0, 0, 0), STAMP_TOO_HIGH);
+    }
+    if numbers.len() < ends.len() {
+        return refused(open_head(0, 0, 0), NO_ROOM);
+    }
+    clear(marks, elapsed, sizes);
+    let h = open_head(bearer, period, stamp);
+    let head = hear_frames(
+        h,
+        bearer,
+        period,
+        marks,
+        elapsed,
+        sizes,
+        octets,
+        ends,
+        numbers,
+    );
+    Taking {
+        answer: Taken::Done,
+        head: head,
+    }
+}
