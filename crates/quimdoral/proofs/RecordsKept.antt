@@ -17,7 +17,8 @@ use Rattle.reception.specs.declared.Taken.{Taken}
 use Rattle.reception.specs.declared.Taken.the-variants.{Done, Refused}
 use Rattle.reception.specs.declared.Taking.{Taking}
 use Rattle.reception.specs.Hearing.{Kept, Outcome, takenPaper, Takes}
-use Rattle.quimdoral.specs.Records.{widest, noHead, headOf, numbersOf, headAfter, Keeps}
+use Rattle.reception.specs.Several.{numbersAfter}
+use Rattle.quimdoral.specs.Records.{widest, noHead, headOf, numbersOf, headAfter, Keeps, Numbers}
 
 -- numbers that are no head's, the first of them that is too wide
 module _ (ns : List ℕ) where
@@ -79,12 +80,8 @@ no-room old k t h =
     record { says = rw q refl; leaves-head = rw q refl; leaves-marks = rw q refl; leaves-elapsed = rw q refl; leaves-sizes = rw q refl }
 
 module _ (old : List ℕ) (k : Kept) (t : Outcome) (r : Taking) (marks elapsed sizes : List ℕ) (h : 6 ≤ length old) (p : Takes t r marks elapsed sizes) where
-  room : ltb (length old) 6 ≡ false
-  room = le-ltb (length old) 6 h
-
   -- what the lists hold after, of a promise that is kept
   kept-as : (x : ℕ) (new : List ℕ) → x ≡ takenPaper (t .answer) .number → new ≡ headAfter (t .answer) old (t .kept .head) → Keeps old k t x new marks elapsed sizes
-  unfolding room
   kept-as x new e l =
       record {
         says = e ∙ rw (le-ltb (length old) 6 h) refl;
@@ -121,3 +118,11 @@ module _ (old : List ℕ) (k : Kept) (t : Outcome) (r : Taking) (marks elapsed s
       go (Refused y) f =
           let z : _≡_ {A = ℕ} 1 0 = ap (λ (y : CountPaper). y .accepted) (q ∙ ap takenPaper f) in
           absurd (omega (arith, z))
+
+-- the numbers of many answers
+pub no-numbers : (old : List ℕ) (t : Outcome) (ts : List Taken) (numbers : List ℕ) → length old < 6 → Numbers old t ts numbers numbers
+no-numbers old t ts numbers h = record { leaves-numbers = rw (lt-ltb (length old) 6 h) refl }
+
+pub told-numbers : (old : List ℕ) (t : Outcome) (ts : List Taken) (numbers new : List ℕ) → 6 ≤ length old → new ≡ numbersAfter (t .answer) ts numbers
+    → Numbers old t ts numbers new
+told-numbers old t ts numbers new h e = record { leaves-numbers = e ∙ rw (le-ltb (length old) 6 h) refl }

@@ -13,6 +13,7 @@ use Rattle.reception.specs.declared.Head.{Head}
 use Rattle.reception.specs.declared.Taken.{Taken}
 use Rattle.reception.specs.declared.Taken.the-variants.{Done, Refused}
 use Rattle.reception.specs.Hearing.{Kept, Outcome, takenPaper}
+use Rattle.reception.specs.Several.{numbersAfter}
 
 -- the largest number of 32 bits
 abbrev pub widest : ℕ
@@ -55,3 +56,7 @@ pub record Keeps (old : List ℕ) (k : Kept) (t : Outcome) (r : ℕ) (new marks 
   pub leaves-marks : marks ≡ (k .marks when ltb (length old) 6 otherwise t .kept .marks)
   pub leaves-elapsed : elapsed ≡ (k .elapsed when ltb (length old) 6 otherwise t .kept .elapsed)
   pub leaves-sizes : sizes ≡ (k .sizes when ltb (length old) 6 otherwise t .kept .sizes)
+
+-- and about the numbers of many answers ts, in a lent list
+pub record Numbers (old : List ℕ) (t : Outcome) (ts : List Taken) (numbers new : List ℕ) : Type 0 where
+  pub leaves-numbers : new ≡ (numbers when ltb (length old) 6 otherwise numbersAfter (t .answer) ts numbers)

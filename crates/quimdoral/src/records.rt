@@ -4,6 +4,7 @@ use hearing::fresh;
 use hearing::hear;
 use reception::Head;
 use reception::Taken;
+use several::hear_sequence;
 use units::Octets;
 use units::Packets;
 use units::refusals::CAPACITIES_DIFFER;
@@ -12,8 +13,9 @@ ghost use mathlib.Core.Bool.{cond};
 ghost use Prim.Native.Nat.{_≤_};
 ghost use lib.ListN.{length};
 ghost use Rattle.fields.specs.Runs.{front};
-ghost use Rattle.reception.specs.Hearing.{keptIn, unused, freshRecord, hearFrame, takenPaper};
-ghost use Rattle.quimdoral.specs.Records.{noHead, headOf, numbersOf, Keeps};
+ghost use Rattle.reception.specs.Hearing.{keptIn, unused, emptyKept, freshRecord, hearFrame, takenPaper};
+ghost use Rattle.reception.specs.Several.{answers, framesIn, hearSequence};
+ghost use Rattle.quimdoral.specs.Records.{noHead, headOf, numbersOf, Keeps, Numbers};
 
 const WIDEST: u64 = 4294967295;
 
@@ -142,6 +144,57 @@ pub extern "C" fn quimdoral_hear(
     }
     let h = head_of(head);
     let t = hear(h, marks, elapsed, sizes, bearer, period, frame);
+    let after = t.head;
+    let answer = t.answer;
+    match answer {
+        Taken::Refused(r) => r.number,
+        Taken::Done => {
+            put_head(head, after);
+            0
+        }
+    }
+}
+
+// Hears many frames into an empty record of a key: they stand in one row of octets, and each is given by the place where it ends.
+// The answer to each goes in front of a lent list. Answers 0, or the number of the refusal of all.
+#[no_mangle]
+pub extern "C" fn quimdoral_hear_all(
+    bearer: u32,
+    period: u32,
+    stamp: u32,
+    head: &mut [u64],
+    marks: &mut [u8],
+    elapsed: &mut [u32],
+    sizes: &mut [u16],
+    octets: &[u8],
+    ends: &[u32],
+    numbers: &mut [u8],
+) -> u8
+    ensures { λ r. ⌜ Keeps (now (head .entry))
+        (unused (now (marks .entry)) (now (elapsed .entry)) (now (sizes .entry)))
+        (hearSequence bearer period stamp (unused (now (marks .entry)) (now (elapsed .entry)) (now (sizes .entry)))
+        (framesIn (now (octets .entry)) 0 (now (ends .entry))) (length (now (numbers .entry))))
+        r (now (head .exit)) (now (marks .exit)) (now (elapsed .exit)) (now (sizes .exit)) ⌝ }
+    ensures { λ r. ⌜ Numbers (now (head .entry))
+        (hearSequence bearer period stamp (unused (now (marks .entry)) (now (elapsed .entry)) (now (sizes .entry)))
+        (framesIn (now (octets .entry)) 0 (now (ends .entry))) (length (now (numbers .entry))))
+        (answers (emptyKept bearer period stamp (length (now (marks .entry)))) bearer period (framesIn (now (octets .entry)) 0 (now (ends .entry))))
+        (now (numbers .entry)) (now (numbers .exit)) ⌝ }
+{
+    if head.len() < 6 {
+        return CAPACITIES_DIFFER;
+    }
+    let t = hear_sequence(
+        bearer,
+        period,
+        stamp,
+        marks,
+        elapsed,
+        sizes,
+        octets,
+        ends,
+        numbers,
+    );
     let after = t.head;
     let answer = t.answer;
     match answer {
