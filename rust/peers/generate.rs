@@ -91,3 +91,46 @@ pub fn any(noise: &mut Noise, reader: &Reader) -> Vec<u8> {
     }
     frame
 }
+
+/// A data PDU with right checks. What its payload says is nothing to a record, so it is one octet repeated.
+pub fn data(reader: &Reader, stamp: u32, packet: u64, elapsed: u64, length: usize) -> Vec<u8> {
+    let mut frame = vec![packet as u8; 11 + length];
+    frame[0] = 0x10;
+    put(&mut frame, 1, 2, stamp.into());
+    put(&mut frame, 3, 2, packet);
+    put(&mut frame, 5, 4, elapsed);
+    reader.seal(&mut frame);
+    frame
+}
+
+/// The control part of a closing PDU in a period with two packets and 100 octets before this sequence.
+fn closing_control(kind: u8, stamp: u32, packets: u64, octets: u64) -> Vec<u8> {
+    let mut frame = vec![0; 17];
+    frame[0] = kind << 4;
+    put(&mut frame, 1, 2, stamp.into());
+    put(&mut frame, 3, 2, packets);
+    put(&mut frame, 5, 4, octets);
+    put(&mut frame, 9, 3, packets + 2);
+    put(&mut frame, 12, 5, octets + 100);
+    frame
+}
+
+/// A Type 0 closing with right checks.
+pub fn closing(reader: &Reader, stamp: u32, packets: u64, octets: u64) -> Vec<u8> {
+    let mut frame = closing_control(0, stamp, packets, octets);
+    frame.push(0);
+    reader.seal(&mut frame);
+    frame
+}
+
+/// A Type 3 closing with right checks, and the lengths' sum as its octets.
+pub fn closing_with_lengths(reader: &Reader, stamp: u32, lengths: &[u64]) -> Vec<u8> {
+    let mut frame = closing_control(3, stamp, lengths.len() as u64, lengths.iter().sum());
+    frame.extend([0, 0]);
+    for pair in lengths.chunks(2) {
+        let two = pair[0] << 12 | pair.get(1).unwrap_or(&0);
+        frame.extend(&two.to_be_bytes()[5..if pair.len() == 2 { 8 } else { 7 }]);
+    }
+    reader.seal(&mut frame);
+    frame
+}

@@ -1,5 +1,10 @@
 //! Safe calls of the proved library. The functions take every input, so each wrapper only passes slices on.
 
+mod records;
+
+#[cfg(feature = "hear_all")]
+pub use records::hear_all;
+pub use records::{fresh, hear, Closed, Key, Lists, Record};
 use std::mem::MaybeUninit;
 
 extern "C" {

@@ -1,0 +1,495 @@
+//! Compiled records beside records written on their own from document 01: good frames, contradicting ones, and damaged lists.
+#[path = "../peers/frames.rs"]
+mod frames;
+#[path = "../peers/generate.rs"]
+mod generate;
+#[path = "../peers/checks.rs"]
+mod peers;
+#[path = "../peers/records.rs"]
+mod records;
+
+use frames::Reader;
+use peers::Noise;
+use quimdoral::{Key, Lists};
+use records::{PlainRecord, Written};
+
+const LONGEST: u64 = 4_095;
+
+fn below(noise: &mut Noise, limit: u64) -> u64 {
+    (noise.next() >> 8) % limit
+}
+
+fn one_in(noise: &mut Noise, times: u64) -> bool {
+    below(noise, times) == 0
+}
+
+/// The number, or one next to it.
+fn next_to(noise: &mut Noise, number: u64) -> u64 {
+    (number + below(noise, 3)).saturating_sub(1)
+}
+
+fn lists(record: &mut Written) -> Lists<'_> {
+    Lists { head: &mut record.head, marks: &mut record.marks, elapsed: &mut record.elapsed, sizes: &mut record.sizes }
+}
+
+/// How often each answer came.
+#[derive(Default, Debug)]
+struct Tally([usize; 15]);
+
+impl Tally {
+    fn add(&mut self, answer: Result<(), u8>) {
+        self.0[usize::from(answer.err().unwrap_or(0))] += 1;
+    }
+
+    fn calls(&self) -> usize {
+        self.0.iter().sum()
+    }
+}
+
+/// Hears with the library and with the peer, and compares the answers and every number of the record afterwards.
+fn hear_alike(record: &mut Written, reader: &Reader, (bearer, period): (u32, u32), frame: &[u8]) -> Result<(), u8> {
+    let mut ours = record.clone();
+    let answer = quimdoral::hear(lists(&mut ours), bearer, period, frame);
+    let before = record.clone();
+    let expected = record.hear(reader, bearer, period, frame);
+    let input = || format!("bearer {bearer}, period {period}, frame {:02X?}, record {before:?}", &frame[..frame.len().min(24)]);
+    assert_eq!(answer, expected, "{}", input());
+    assert!(ours == *record, "the records differ: {}, ours after {ours:?}", input());
+    assert!(answer.is_ok() || ours == before, "a refusal changed the record: {}", input());
+    answer
+}
+
+fn fresh_alike(record: &mut Written, Key { bearer, period, stamp }: Key) -> Result<(), u8> {
+    let mut ours = record.clone();
+    let answer = quimdoral::fresh(Key { bearer, period, stamp }, lists(&mut ours));
+    assert_eq!(answer, record.fresh(bearer, period, stamp), "key {bearer} {period} {stamp}, capacity {}", record.marks.len());
+    assert!(ours == *record, "the records differ: key {bearer} {period} {stamp}, capacity {}", record.marks.len());
+    answer
+}
+
+/// One sequence, and the frames that it and its like could send.
+struct Sequence {
+    key: Key,
+    lengths: Vec<u64>,
+}
+
+impl Sequence {
+    fn any(noise: &mut Noise, most: u64) -> Sequence {
+        let wide = one_in(noise, 2);
+        let packets = below(noise, most + 1);
+        let lengths = (0..packets).map(|_| any_length(noise, wide)).collect();
+        let stamp = [0, 1, 59_999, below(noise, 60_000) as u32][below(noise, 4) as usize];
+        let bearer = [0, 7, u32::MAX, noise.next() as u32][below(noise, 4) as usize];
+        Sequence { key: Key { bearer, period: noise.next() as u32, stamp }, lengths }
+    }
+
+    fn octets(&self, packets: usize) -> u64 {
+        self.lengths[..packets].iter().sum()
+    }
+
+    fn data(&self, reader: &Reader, packet: usize) -> Vec<u8> {
+        generate::data(reader, self.key.stamp, packet as u64, self.octets(packet), self.lengths[packet] as usize)
+    }
+
+    fn closing(&self, reader: &Reader) -> Vec<u8> {
+        generate::closing(reader, self.key.stamp, self.lengths.len() as u64, self.octets(self.lengths.len()))
+    }
+
+    fn closing_with_lengths(&self, reader: &Reader) -> Vec<u8> {
+        generate::closing_with_lengths(reader, self.key.stamp, &self.lengths)
+    }
+
+    /// A frame that belongs to the sequence.
+    fn good(&self, noise: &mut Noise, reader: &Reader) -> Vec<u8> {
+        let packets = self.lengths.len() as u64;
+        match below(noise, packets + 2) {
+            packet if packet < packets => self.data(reader, packet as usize),
+            place if place == packets => self.closing(reader),
+            _ => self.closing_with_lengths(reader),
+        }
+    }
+
+    /// A frame of a sequence that differs in one length, or has one packet more or less.
+    fn almost(&self, noise: &mut Noise, reader: &Reader) -> Vec<u8> {
+        let mut lengths = self.lengths.clone();
+        let place = below(noise, lengths.len() as u64 + 1) as usize;
+        if place == lengths.len() {
+            lengths.push(below(noise, 2));
+        } else if one_in(noise, 3) {
+            lengths.pop();
+        } else {
+            lengths[place] = next_to(noise, lengths[place]).min(LONGEST);
+        }
+        Sequence { key: self.key, lengths }.good(noise, reader)
+    }
+
+    /// The closing with its numbers, or those next to them, or with its lengths in other places, which a record does not keep.
+    fn near_closing(&self, noise: &mut Noise, reader: &Reader) -> Vec<u8> {
+        let packets = self.lengths.len();
+        if one_in(noise, 4) {
+            let turned: Vec<u64> = self.lengths.iter().rev().copied().collect();
+            return generate::closing_with_lengths(reader, self.key.stamp, &turned);
+        }
+        let (n, octets) = (next_to(noise, packets as u64), next_to(noise, self.octets(packets)));
+        generate::closing(reader, self.key.stamp, n, octets)
+    }
+}
+
+fn any_length(noise: &mut Noise, wide: bool) -> u64 {
+    match below(noise, 8) {
+        0 => 0,
+        1 => 1,
+        2 => below(noise, 100),
+        _ if wide => LONGEST - below(noise, 2) * below(noise, 2),
+        _ => below(noise, 20),
+    }
+}
+
+/// A data PDU at a bound that a heard packet, the start or the closing sets, or just outside it.
+fn at_a_bound(noise: &mut Noise, reader: &Reader, record: &Written, stamp: u32) -> Vec<u8> {
+    let capacity = record.marks.len() as u64;
+    let packet = below(noise, capacity.max(1));
+    let size = any_length(noise, true);
+    let other = below(noise, capacity + 1);
+    let gap = |packets: u64| LONGEST * packets;
+    let elapsed = if other == capacity || record.marks[other as usize] != 1 {
+        let (packets, octets) = (record.head[4], record.head[5]);
+        octets.saturating_sub(size + gap(packets.saturating_sub(packet + 1)) * below(noise, 2))
+    } else if packet > other {
+        let end = u64::from(record.elapsed[other as usize]) + u64::from(record.sizes[other as usize]);
+        end + gap(packet - other - 1) * below(noise, 2)
+    } else {
+        let start = u64::from(record.elapsed[other as usize]);
+        start.saturating_sub(size + gap(other.saturating_sub(packet + 1)) * below(noise, 2))
+    };
+    generate::data(reader, stamp, packet, next_to(noise, elapsed), size as usize)
+}
+
+/// A number at or above the capacity, or a closing count there, with octets that reading does not refuse.
+fn beyond(noise: &mut Noise, reader: &Reader, capacity: u64, stamp: u32) -> Vec<u8> {
+    let number = [capacity, capacity + 1, 65_534, 65_535][below(noise, 4) as usize];
+    let octets = below(noise, LONGEST * number + 1);
+    match below(noise, 3) {
+        0 => generate::closing(reader, stamp, number, octets),
+        1 => generate::closing_with_lengths(reader, stamp, &vec![1; number.min(300) as usize]),
+        _ => generate::data(reader, stamp, number, octets, 3),
+    }
+}
+
+fn spoil(noise: &mut Noise, frame: &mut Vec<u8>) {
+    let bit = below(noise, 8 * frame.len() as u64) as usize;
+    match below(noise, 3) {
+        0 => frame.truncate(bit / 8),
+        1 => frame.push(noise.next() as u8),
+        _ => frame[bit / 8] ^= 1 << (bit % 8),
+    }
+}
+
+/// A frame for a record of a sequence: half of them good, the others wrong in one of many ways.
+fn any_frame(noise: &mut Noise, reader: &Reader, sequence: &Sequence, record: &Written) -> Vec<u8> {
+    let stamp = sequence.key.stamp;
+    match below(noise, 16) {
+        0 | 1 => sequence.almost(noise, reader),
+        2 | 3 => at_a_bound(noise, reader, record, stamp),
+        4 => sequence.near_closing(noise, reader),
+        5 => beyond(noise, reader, record.marks.len() as u64, stamp),
+        6 => generate::any(noise, reader),
+        7 => {
+            let mut frame = sequence.good(noise, reader);
+            spoil(noise, &mut frame);
+            frame
+        }
+        8 => {
+            let other = Key { stamp: next_to(noise, stamp.into()) as u32, ..sequence.key };
+            Sequence { key: other, lengths: sequence.lengths.clone() }.good(noise, reader)
+        }
+        _ => sequence.good(noise, reader),
+    }
+}
+
+/// Mostly the sequence's bearer and period.
+fn any_way(noise: &mut Noise, key: Key) -> (u32, u32) {
+    match below(noise, 24) {
+        0 => (key.bearer ^ 1 << below(noise, 32), key.period),
+        1 => (key.bearer, key.period ^ 1 << below(noise, 32)),
+        2 if key.bearer != key.period => (key.period, key.bearer),
+        _ => (key.bearer, key.period),
+    }
+}
+
+fn any_capacity(noise: &mut Noise, packets: usize) -> usize {
+    match below(noise, 4) {
+        0 => packets,
+        1 => packets.saturating_sub(1 + below(noise, 2) as usize),
+        _ => packets + below(noise, 12) as usize,
+    }
+}
+
+/// Hears frames of many sequences of at most so many packets, and tells how often each answer came.
+fn hear_many(seed: u64, most: u64, calls: usize) -> Tally {
+    let reader = Reader::new();
+    let mut noise = Noise(seed);
+    let mut tally = Tally::default();
+    while tally.calls() < calls {
+        let sequence = Sequence::any(&mut noise, most);
+        let Key { bearer, period, stamp } = sequence.key;
+        let capacity = any_capacity(&mut noise, sequence.lengths.len());
+        let mut record = Written::empty(bearer, period, stamp, capacity);
+        let mut plain = PlainRecord::fresh(bearer, period, stamp, capacity);
+        for _ in 0..below(&mut noise, 4 * most) {
+            let frame = any_frame(&mut noise, &reader, &sequence, &record);
+            let way = any_way(&mut noise, sequence.key);
+            let answer = hear_alike(&mut record, &reader, way, &frame);
+            assert_eq!(plain.hear(&reader, way.0, way.1, &frame), answer, "the plain record on {frame:02X?} after {record:?}");
+            tally.add(answer);
+        }
+        same_as_plain(&record, &plain);
+    }
+    tally
+}
+
+#[test]
+fn frames_are_heard_alike() {
+    let tally = hear_many(21, 30, 400_000);
+    // every answer that an undamaged record can give came up often enough to mean something
+    assert!((0..12).all(|answer| tally.0[answer] > 300), "{tally:?}");
+}
+
+#[test]
+fn frames_are_heard_alike_in_longer_records() {
+    let tally = hear_many(26, 1_000, 40_000);
+    assert!([0, 9, 10, 11].iter().all(|&answer| tally.0[answer] > 1_000), "{tally:?}");
+}
+
+fn same_as_plain(record: &Written, plain: &PlainRecord) {
+    assert!(record.marks.iter().map(|&mark| mark == 1).eq(plain.marks.iter().copied()));
+    assert_eq!((&record.elapsed, &record.sizes), (&plain.elapsed, &plain.sizes));
+    let closing = (record.head[3] == 1).then(|| (record.head[4] as usize, record.head[5]));
+    assert_eq!(closing, plain.closing);
+}
+
+#[test]
+fn no_order_repeat_or_loss_makes_hearing_refuse() {
+    let reader = Reader::new();
+    let mut noise = Noise(22);
+    for _ in 0..1_000 {
+        let sequence = Sequence::any(&mut noise, 30);
+        let Key { bearer, period, stamp } = sequence.key;
+        let capacity = sequence.lengths.len() + below(&mut noise, 3) as usize;
+        let mut frames: Vec<_> = (0..30).map(|_| sequence.good(&mut noise, &reader)).collect();
+        let mut one = Written::empty(bearer, period, stamp, capacity);
+        let mut other = one.clone();
+        for frame in &frames {
+            assert_eq!(hear_alike(&mut one, &reader, (bearer, period), frame), Ok(()));
+        }
+        frames.sort_by_key(|frame| frame.iter().rev().copied().collect::<Vec<u8>>());
+        for frame in &frames {
+            assert_eq!(hear_alike(&mut other, &reader, (bearer, period), frame), Ok(()));
+        }
+        assert_eq!(one, other);
+    }
+}
+
+/// A record of a sequence after some of its frames.
+fn part_heard(noise: &mut Noise, reader: &Reader, sequence: &Sequence, capacity: usize) -> Written {
+    let Key { bearer, period, stamp } = sequence.key;
+    let mut record = Written::empty(bearer, period, stamp, capacity);
+    for _ in 0..below(noise, 16) {
+        let frame = sequence.good(noise, reader);
+        let _ = record.hear(reader, bearer, period, &frame);
+    }
+    record
+}
+
+const DAMAGES: u64 = 18;
+
+/// One of the ways to damage a record. Some leave it whole now and then, which the peer has to find out too.
+fn damage(noise: &mut Noise, record: &mut Written, way: u64) {
+    let place = below(noise, record.marks.len().max(1) as u64) as usize;
+    let wide = 1u64 << (32 + below(noise, 32));
+    match way {
+        0 => record.head[0] |= wide,
+        1 => record.head[1] |= wide,
+        2 => record.head[2] |= wide,
+        3 => record.head[2] = [60_000, 65_535, u32::MAX.into()][below(noise, 3) as usize],
+        4 => record.head[3] = [2, 256, 1 << 32, u64::MAX, wide + 1][below(noise, 5) as usize],
+        5 => record.head[3] ^= 1,
+        6 => record.head[4] = [record.marks.len() as u64 + 1, wide, wide | record.head[4], u64::MAX][below(noise, 4) as usize],
+        7 => record.head[4] = next_to(noise, record.head[4]),
+        8 => record.head[5] = next_to(noise, record.head[5]),
+        9 => record.head[5] = [wide, u64::MAX, LONGEST * record.head[4] + 1][below(noise, 3) as usize],
+        10 => record.head.truncate(below(noise, 6) as usize),
+        11 => drop_one(noise, record),
+        12 => record.head.extend([9, u64::MAX]),
+        _ if place < record.marks.len() => match way {
+            13 => record.marks[place] = [2, 3, 128, 254, 255][below(noise, 5) as usize],
+            14 => record.marks[place] ^= 1,
+            15 => record.elapsed[place] = [1, u32::MAX, noise.next() as u32][below(noise, 3) as usize],
+            16 => record.sizes[place] = [1, 4_096, u16::MAX, noise.next() as u16][below(noise, 4) as usize],
+            _ => {
+                let place = record.marks.iter().position(|&mark| mark == 1).unwrap_or(place);
+                record.elapsed[place] = next_to(noise, record.elapsed[place].into()) as u32;
+                record.sizes[place] = next_to(noise, record.sizes[place].into()) as u16;
+            }
+        },
+        _ => {}
+    }
+}
+
+/// One list gets another length than the others.
+fn drop_one(noise: &mut Noise, record: &mut Written) {
+    match below(noise, 6) {
+        0 => record.marks.push(0),
+        1 => record.elapsed.push(0),
+        2 => record.sizes.push(0),
+        3 => drop(record.marks.pop()),
+        4 => drop(record.elapsed.pop()),
+        _ => drop(record.sizes.pop()),
+    }
+}
+
+#[test]
+fn damaged_records_are_refused_alike() {
+    let reader = Reader::new();
+    let mut noise = Noise(23);
+    let mut tallies: [Tally; DAMAGES as usize] = Default::default();
+    for round in 0..120_000 {
+        let most = if one_in(&mut noise, 40) { 700 } else { 12 };
+        let sequence = Sequence::any(&mut noise, most);
+        let capacity = any_capacity(&mut noise, sequence.lengths.len());
+        let whole = part_heard(&mut noise, &reader, &sequence, capacity);
+        let mut record = whole.clone();
+        let way = round % DAMAGES;
+        damage(&mut noise, &mut record, way);
+        let frame = any_frame(&mut noise, &reader, &sequence, &whole);
+        let by = any_way(&mut noise, sequence.key);
+        tallies[way as usize].add(hear_alike(&mut record, &reader, by, &frame));
+    }
+    // each way to damage a record was found out, by its own number
+    for (way, tally) in tallies.iter().enumerate() {
+        let number = match way {
+            10 | 11 => 14,
+            12 => 0,
+            _ => 13,
+        };
+        assert!(tally.0[number] > 300, "way {way}: {tally:?}");
+    }
+}
+
+#[test]
+fn fresh_records_are_made_alike() {
+    let mut noise = Noise(24);
+    let mut tally = Tally::default();
+    for round in 0..20_000 {
+        let capacity = if round < 60 { [65_534, 65_535, 65_536][round % 3] } else { below(&mut noise, 20) as usize };
+        let mut record = Written {
+            head: (0..6).map(|_| noise.next()).collect(),
+            marks: noise.octets(capacity),
+            elapsed: (0..capacity).map(|_| noise.next() as u32).collect(),
+            sizes: (0..capacity).map(|_| noise.next() as u16).collect(),
+        };
+        if one_in(&mut noise, 4) {
+            let way = 10 + below(&mut noise, 3);
+            damage(&mut noise, &mut record, way);
+        }
+        let stamp = [0, 59_999, 60_000, 65_536, u32::MAX][below(&mut noise, 5) as usize];
+        tally.add(fresh_alike(&mut record, Key { bearer: noise.next() as u32, period: noise.next() as u32, stamp }));
+    }
+    assert!([0, 5, 14].iter().all(|&answer| tally.0[answer] > 1_000), "{tally:?}");
+}
+
+#[test]
+fn the_longest_records_are_heard_alike() {
+    let reader = Reader::new();
+    let mut noise = Noise(25);
+    let sequence = Sequence { key: Key { bearer: 1, period: 2, stamp: 3 }, lengths: vec![LONGEST; 65_535] };
+    let mut record = Written::empty(1, 2, 3, 65_535);
+    let mut packets: Vec<usize> = (0..150).map(|_| below(&mut noise, 65_535) as usize).collect();
+    packets.extend([0, 1, 65_533, 65_534]);
+    for (turn, &packet) in packets.iter().enumerate() {
+        let frame = sequence.data(&reader, packet);
+        assert_eq!(hear_alike(&mut record, &reader, (1, 2), &frame), Ok(()));
+        let off = generate::data(&reader, 3, packet as u64, sequence.octets(packet).saturating_sub(1), LONGEST as usize);
+        assert_eq!(hear_alike(&mut record, &reader, (1, 2), &off), if packet == 0 { Ok(()) } else { Err(11) });
+        if turn % 30 == 0 {
+            let frame = any_frame(&mut noise, &reader, &sequence, &record);
+            let _ = hear_alike(&mut record, &reader, (1, 2), &frame);
+        }
+    }
+    for closing in [sequence.closing(&reader), sequence.closing_with_lengths(&reader)] {
+        assert_eq!(hear_alike(&mut record, &reader, (1, 2), &closing), Ok(()));
+    }
+    for list in 0..3 {
+        damage_the_last_place(&reader, &sequence, &record, list);
+    }
+}
+
+fn damage_the_last_place(reader: &Reader, sequence: &Sequence, record: &Written, list: usize) {
+    let mut record = record.clone();
+    match list {
+        0 => record.marks[65_534] = 2,
+        1 => record.elapsed[65_534] -= 1,
+        _ => record.sizes[65_534] -= 1,
+    }
+    assert_eq!(hear_alike(&mut record, reader, (1, 2), &sequence.data(reader, 0)), Err(13));
+}
+
+#[test]
+fn capacities_at_their_limits() {
+    let reader = Reader::new();
+    let first = generate::data(&reader, 0, 0, 0, 1);
+    let none = generate::closing(&reader, 0, 0, 0);
+    let mut record = Written::empty(7, 3, 0, 0);
+    assert_eq!(hear_alike(&mut record, &reader, (7, 3), &first), Err(10));
+    assert_eq!(hear_alike(&mut record, &reader, (7, 3), &generate::closing(&reader, 0, 1, 1)), Err(10));
+    assert_eq!(hear_alike(&mut record, &reader, (7, 3), &none), Ok(()));
+    assert_eq!(record.head, [7, 3, 0, 1, 0, 0]);
+    let mut too_long = Written::empty(7, 3, 0, 65_536);
+    assert_eq!(hear_alike(&mut too_long, &reader, (7, 3), &first), Err(14));
+    assert_eq!(hear_alike(&mut too_long, &reader, (7, 3), &[]), Err(14));
+    assert_eq!(fresh_alike(&mut too_long, Key { bearer: 7, period: 3, stamp: 60_000 }), Err(14));
+    let mut longest = Written::empty(7, 3, 0, 65_535);
+    assert_eq!(hear_alike(&mut longest, &reader, (7, 3), &generate::data(&reader, 0, 65_534, LONGEST * 65_534, 0)), Ok(()));
+    assert_eq!(hear_alike(&mut longest, &reader, (7, 3), &generate::closing(&reader, 0, 65_535, LONGEST * 65_535)), Err(11));
+    assert_eq!(hear_alike(&mut longest, &reader, (7, 3), &generate::closing(&reader, 0, 65_535, LONGEST * 65_534)), Ok(()));
+}
+
+/// After packet 1, both ends of what the packets around it and a closing can say.
+#[test]
+fn bounds_hold_at_both_ends() {
+    let reader = Reader::new();
+    let start = LONGEST / 2;
+    let heard = || {
+        let mut record = Written::empty(7, 3, 0, 8);
+        assert_eq!(hear_alike(&mut record, &reader, (7, 3), &generate::data(&reader, 0, 1, start, 10)), Ok(()));
+        record
+    };
+    let answer = |frame: &[u8]| hear_alike(&mut heard(), &reader, (7, 3), frame);
+    for number in 2..8 {
+        let least = start + 10;
+        let most = least + (number - 2) * LONGEST;
+        for (octets, expected) in [(least - 1, Err(11)), (least, Ok(())), (most, Ok(())), (most + 1, Err(11))] {
+            assert_eq!(answer(&generate::data(&reader, 0, number, octets, 0)), expected);
+            assert_eq!(answer(&generate::closing(&reader, 0, number, octets)), expected);
+        }
+    }
+    for (size, expected) in [(start - 1, Err(11)), (start, Ok(())), (start + 1, Err(11))] {
+        assert_eq!(answer(&generate::data(&reader, 0, 0, 0, size as usize)), expected);
+    }
+    assert_eq!(answer(&generate::closing(&reader, 0, 1, start)), Err(11));
+    assert_eq!(answer(&generate::closing(&reader, 0, 2, start + 10)), Ok(()));
+}
+
+/// Document 01's examples G and H, by the record that owns its memory.
+#[test]
+fn examples_g_and_h() {
+    let reader = Reader::new();
+    let b = [0x10, 0, 0, 0, 0, 0, 0, 0, 0, 0x3A, 0x33, 0x01];
+    for (number, elapsed, expected) in [(1, 2, Err(11)), (2, 1, Ok(())), (2, 4_096, Ok(())), (2, 4_097, Err(11))] {
+        let mut record = quimdoral::Record::fresh(7, 3, 0, 4).unwrap();
+        assert_eq!(record.hear(7, 3, &b), Ok(()));
+        let before = record.clone();
+        assert_eq!(record.hear(7, 3, &generate::data(&reader, 0, number, elapsed, 5)), expected);
+        assert_eq!(record == before, expected.is_err());
+    }
+}
