@@ -2,7 +2,6 @@
 
 mod records;
 
-#[cfg(feature = "hear_all")]
 pub use records::hear_all;
 pub use records::{fresh, hear, Closed, Key, Lists, Record};
 use std::mem::MaybeUninit;

@@ -16,7 +16,6 @@ extern "C" {
         bearer: u32, period: u32,
         frame: *const u8, length: usize,
     ) -> u8;
-    #[cfg(feature = "hear_all")]
     fn quimdoral_hear_all(
         bearer: u32, period: u32, stamp: u32,
         head: *mut u64, head_length: usize,
@@ -116,7 +115,6 @@ pub fn hear(lists: Lists, bearer: u32, period: u32, frame: &[u8]) -> Result<(), 
 }
 
 /// Hears many frames into a fresh record: frame `i` ends before `ends[i]`, and `numbers[i]` gets its refusal's number or 0.
-#[cfg(feature = "hear_all")]
 #[inline]
 pub fn hear_all(key: Key, lists: Lists, octets: &[u8], ends: &[u32], numbers: &mut [u8]) -> Result<(), u8> {
     let Lists { head, marks, elapsed, sizes } = lists;

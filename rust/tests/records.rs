@@ -376,6 +376,49 @@ fn damaged_records_are_refused_alike() {
     }
 }
 
+/// Many frames at once, from memory that held anything, against the peer hearing them one by one; ends are at times out of order.
+fn hear_all_alike(noise: &mut Noise, reader: &Reader) -> Result<(), u8> {
+    let sequence = Sequence::any(noise, 20);
+    let Key { bearer, period, stamp } = sequence.key;
+    let capacity = any_capacity(noise, sequence.lengths.len());
+    let mut expected = Written::empty(bearer, period, stamp, capacity);
+    let (mut octets, mut ends) = (Vec::new(), Vec::new());
+    for _ in 0..below(noise, 30) {
+        let frame = any_frame(noise, reader, &sequence, &expected);
+        octets.extend(frame);
+        ends.push(if one_in(noise, 20) { below(noise, octets.len() as u64 + 9) as u32 } else { octets.len() as u32 });
+    }
+    let (mut from, mut told) = (0, Vec::new());
+    for &end in &ends {
+        let frame = octets.get(from..(end as usize).min(octets.len())).unwrap_or(&[]);
+        told.push(expected.hear(reader, bearer, period, frame).err().unwrap_or(0));
+        from = end as usize;
+    }
+    let dirty = noise.octets(capacity);
+    let mut ours = Written { head: vec![5; 6], marks: dirty, elapsed: vec![7; capacity], sizes: vec![9; capacity] };
+    let before = ours.clone();
+    let room = ends.len() + 2 - below(noise, 4) as usize % (ends.len() + 3);
+    let mut numbers = vec![77; room];
+    let answer = quimdoral::hear_all(sequence.key, lists(&mut ours), &octets, &ends, &mut numbers);
+    assert_eq!(answer, if room < ends.len() { Err(12) } else { Ok(()) });
+    if answer.is_ok() {
+        assert_eq!((&numbers[..ends.len()], &numbers[ends.len()..]), (&told[..], &[77; 3][..room - ends.len()]));
+        assert!(ours == expected, "the records differ: ends {ends:?}, ours {ours:?}, expected {expected:?}");
+    } else {
+        assert!(ours == before && numbers.iter().all(|&number| number == 77), "a refusal changed something");
+    }
+    answer
+}
+
+#[test]
+fn frames_in_one_call_are_heard_alike() {
+    let (reader, mut noise, mut tally) = (Reader::new(), Noise(27), Tally::default());
+    for _ in 0..20_000 {
+        tally.add(hear_all_alike(&mut noise, &reader));
+    }
+    assert!([0, 12].iter().all(|&answer| tally.0[answer] > 1_000), "{tally:?}");
+}
+
 #[test]
 fn fresh_records_are_made_alike() {
     let mut noise = Noise(24);
