@@ -1,12 +1,28 @@
-// Whether a reception record is damaged, for the functions that hear, join and report: one pass over its places.
+// What the functions that hear, join and report ask of a record first: whether its lists match, whether it is damaged (one pass over
+// its places), and whether a key is its own.
 ghost use mathlib.Core.Path.{_≡_};
 ghost use Prim.Native.Nat.{_≤_, _<_};
 ghost use Rattle.reception.specs.Sendings.{heldIn};
 ghost use Rattle.reception.specs.Walk.{reach, fits, mayEnd};
+ghost use Rattle.reception.specs.Hearing.{listsDiffer, otherKey};
 ghost use Rattle.reception.specs.Damage.{Matched, placeWrong, closingOff, walkFails, damagedRecord};
 use reception::Head;
 use units::limits::LAST_STAMP;
+use units::limits::MOST_CAPACITY;
 use units::limits::MOST_PAYLOAD;
+
+// Whether three lists, by their lengths, are no record's.
+pub fn lists_differ(marks: usize, elapsed: usize, sizes: usize) -> bool
+    ensures { λ r. ⌜ r ≡ listsDiffer marks elapsed sizes ⌝ }
+{
+    if MOST_CAPACITY < marks as u64 {
+        return true;
+    }
+    if elapsed != marks {
+        return true;
+    }
+    sizes != marks
+}
 
 // Octets as the places of a record hold them, with the bounds that a sum of them needs.
 pub fn from_u32(x: u32) -> u64
@@ -128,4 +144,17 @@ pub fn is_damaged(h: Head, marks: &[u8], elapsed: &[u32], sizes: &[u16]) -> bool
         return true;
     }
     walk_fails(h, marks, elapsed, sizes)
+}
+
+// Whether bearer, period or stamp is another sequence's.
+pub fn other_key(h: Head, bearer: u32, period: u32, stamp: u32) -> bool
+    ensures { λ r. ⌜ r ≡ otherKey h bearer period stamp ⌝ }
+{
+    if h.bearer != bearer {
+        return true;
+    }
+    if h.period != period {
+        return true;
+    }
+    h.stamp != stamp
 }

@@ -1,14 +1,12 @@
 -- How each answer meets the promise of hearing. Assumes nothing.
 use Prim.Native.Nat.{ℕ, _≤_, _<_}
-use mathlib.Core.Path.{_≡_, refl, ap}
-use mathlib.Core.Bool.{true, false, not}
+use mathlib.Core.Path.{_≡_, refl}
+use mathlib.Core.Bool.{true, false}
 use lib.ListN.{length}
-use lib.Dec.{eqb}
-use borrow.Author.Tests.{eq-eqb, le-leb, lt-leb, lt-ltb, le-ltb}
+use borrow.Author.Tests.{le-leb, lt-leb, lt-ltb, le-ltb}
 use Rattle.units.specs.Refusals.{otherSequence, beyondCapacity, contradiction}
 use Rattle.frame.specs.declared.ClosingPdu.{ClosingPdu}
 use Rattle.frame.specs.declared.DataPdu.{DataPdu}
-use Rattle.reception.specs.declared.Head.{Head}
 use Rattle.reception.specs.declared.Taken.the-variants.{Done}
 use Rattle.reception.specs.declared.Taking.{Taking}
 use Rattle.reception.specs.Adding.{packetContradicts, closingContradicts}
@@ -21,11 +19,6 @@ refused-as k n e q = record { says = rw (e, q) refl; leaves = rw (e, q) refl }
 -- something taken
 pub taken-as : (k : Kept) {t : Outcome} {r : Taking} → t ≡ takes k → r ≡ record { answer = Done; head = k .head } → Takes t r (k .marks) (k .elapsed) (k .sizes)
 taken-as k e q = record { says = rw (e, q) refl; leaves = rw (e, q) refl }
-
--- of a key, the stamp decides where bearer and period are the record's
-pub by-stamp : (h : Head) (bearer period stamp : ℕ) → h .bearer ≡ bearer → h .period ≡ period → not (eqb (h .stamp) stamp) ≡ otherKey h bearer period stamp
-unfolding otherKey
-by-stamp h bearer period stamp b p = rw (eq-eqb (h .bearer) bearer b, eq-eqb (h .period) period p) refl
 
 -- the tests of a data PDU in their order
 module _ (k : Kept) (bearer period : ℕ) (d : DataPdu) where

@@ -25,7 +25,7 @@ pub struct Span {
 }
 
 // Two pairs of numbers are not the same.
-fn differs(a: u64, b: u64, c: u64, d: u64) -> bool
+pub fn differs(a: u64, b: u64, c: u64, d: u64) -> bool
     ensures { λ r. ⌜ r ≡ differ a b c d ⌝ }
 {
     if a != c {

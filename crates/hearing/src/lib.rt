@@ -5,6 +5,7 @@ pub mod looking;
 pub mod taking;
 
 use contradicting::Span;
+use damage::lists_differ;
 use frame::ClosingPdu;
 use frame::DataPdu;
 use frame::Read;
@@ -12,7 +13,6 @@ use reception::Head;
 use reception::Taken;
 use reception::Taking;
 use taking::clear;
-use taking::lists_differ;
 use taking::open_head;
 use taking::refused;
 use taking::take_closing;

@@ -1,4 +1,4 @@
-// What a record takes: refusals 14, 9, 10 and 11, and the stores of a packet. A record that is damaged is refused before, by the
+// What a record takes: refusals 9, 10 and 11, and the stores of a packet. A record that is damaged is refused before, by the
 // callers.
 ghost use mathlib.Core.Path.{_≡_};
 ghost use mathlib.Core.Bool.{true};
@@ -8,11 +8,12 @@ ghost use Rattle.reception.specs.Sendings.{heldIn};
 ghost use Rattle.reception.specs.Walk.{isExplained};
 ghost use Rattle.reception.specs.Damage.{Matched};
 ghost use Rattle.reception.specs.Neighbours.{NoneBefore, NoneFrom};
-ghost use Rattle.reception.specs.Hearing.{keptIn, keeps, listsDiffer, otherKey, openHead, hearPacket, hearClosing, Takes};
+ghost use Rattle.reception.specs.Hearing.{keptIn, keeps, openHead, hearPacket, hearClosing, Takes};
 use crate::contradicting::Span;
 use crate::contradicting::closing_contradicts;
 use crate::contradicting::packet_contradicts;
 use crate::contradicting::with_closing;
+use damage::other_key;
 use frame::ClosingPdu;
 use frame::DataPdu;
 use reception::Head;
@@ -21,7 +22,6 @@ use reception::Taking;
 use units::Octets;
 use units::Packets;
 use units::Refusal;
-use units::limits::MOST_CAPACITY;
 use units::refusals::BEYOND_CAPACITY;
 use units::refusals::CONTRADICTION;
 use units::refusals::OTHER_SEQUENCE;
@@ -34,32 +34,6 @@ pub fn refused(h: Head, number: u8) -> Taking
         answer: Taken::Refused(Refusal { number: number }),
         head: h,
     }
-}
-
-// Whether three lists, by their lengths, are no record's.
-pub fn lists_differ(marks: usize, elapsed: usize, sizes: usize) -> bool
-    ensures { λ r. ⌜ r ≡ listsDiffer marks elapsed sizes ⌝ }
-{
-    if MOST_CAPACITY < marks as u64 {
-        return true;
-    }
-    if elapsed != marks {
-        return true;
-    }
-    sizes != marks
-}
-
-// Whether bearer, period or stamp is another sequence's.
-fn other_key(h: Head, bearer: u32, period: u32, stamp: u32) -> bool
-    ensures { λ r. ⌜ r ≡ otherKey h bearer period stamp ⌝ }
-{
-    if h.bearer != bearer {
-        return true;
-    }
-    if h.period != period {
-        return true;
-    }
-    h.stamp != stamp
 }
 
 // A head of a key, and without a closing.

@@ -12,7 +12,7 @@ use Rattle.hearing.proofs.fresh.Tie as tie
 use Rattle.hearing.proofs.fresh.Reads as reads
 use Rattle.hearing.proofs.fresh.Lts as lts
 use Rattle.hearing.proofs.taking.clear.Reads as clear-reads
-use Rattle.hearing.proofs.taking.lists_differ.Reads as lists-differ-reads
+use Rattle.damage.proofs.lists_differ.Reads as lists-differ-reads
 use Rattle.hearing.proofs.taking.open_head.Reads as open-head-reads
 use Rattle.hearing.proofs.taking.refused.Reads as refused-reads
 

@@ -20,7 +20,7 @@ use Rattle.hearing.proofs.hear.Reads as reads
 use Rattle.hearing.proofs.hear.Lts as lts
 use Rattle.hearing.proofs.hear_closing.Reads as hear-closing-reads
 use Rattle.hearing.proofs.hear_data.Reads as hear-data-reads
-use Rattle.hearing.proofs.taking.lists_differ.Reads as lists-differ-reads
+use Rattle.damage.proofs.lists_differ.Reads as lists-differ-reads
 use Rattle.hearing.proofs.taking.refused.Reads as refused-reads
 use Rattle.reader.proofs.read_frame.Reads as read-frame-reads
 

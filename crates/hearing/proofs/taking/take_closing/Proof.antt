@@ -11,7 +11,7 @@ use Rattle.hearing.proofs.taking.take_closing.Reads as reads
 use Rattle.hearing.proofs.taking.take_closing.Lts as lts
 use Rattle.hearing.proofs.contradicting.closing_contradicts.Reads as closing-contradicts-reads
 use Rattle.hearing.proofs.contradicting.with_closing.Reads as with-closing-reads
-use Rattle.hearing.proofs.taking.other_key.Reads as other-key-reads
+use Rattle.damage.proofs.other_key.Reads as other-key-reads
 use Rattle.hearing.proofs.taking.refused.Reads as refused-reads
 
 other-key-requires : tie.Need-other-key-requires

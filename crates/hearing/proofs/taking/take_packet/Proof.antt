@@ -10,7 +10,7 @@ use Rattle.hearing.proofs.taking.take_packet.Tie as tie
 use Rattle.hearing.proofs.taking.take_packet.Reads as reads
 use Rattle.hearing.proofs.taking.take_packet.Lts as lts
 use Rattle.hearing.proofs.contradicting.packet_contradicts.Reads as packet-contradicts-reads
-use Rattle.hearing.proofs.taking.other_key.Reads as other-key-reads
+use Rattle.damage.proofs.other_key.Reads as other-key-reads
 use Rattle.hearing.proofs.taking.refused.Reads as refused-reads
 
 other-key-requires : tie.Need-other-key-requires
