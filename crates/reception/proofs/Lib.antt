@@ -3,7 +3,10 @@ pub mod BenchExamples
 pub mod ContradictsExactly
 pub mod DamagedExactly
 pub mod Decided
+pub mod EndReached
 pub mod ExplainedTogether
+pub mod GapOctets
+pub mod GapsAreUnheard
 pub mod HeardAgain
 pub mod HearingContradicts
 pub mod HearingUndamaged
@@ -14,8 +17,11 @@ pub mod JoinsGrouped
 pub mod KeptAsHeld
 pub mod LawsOfJoining
 pub mod NeighboursDecide
+pub mod OnePaper
 pub mod Points
 pub mod RefusalChangesNothing
+pub mod ReportAccounts
+pub mod SmallReports
 pub mod StaysUndamaged
 pub mod SumsBefore
 pub mod WhatHearingAdds

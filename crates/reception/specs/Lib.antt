@@ -2,6 +2,7 @@ pub mod Adding
 pub mod Damage
 pub mod Hearing
 pub mod Joining
+pub mod Missing
 pub mod Neighbours
 pub mod OneSequence
 pub mod Reporting

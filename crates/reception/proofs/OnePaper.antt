@@ -1,0 +1,109 @@
+-- An answer about a record is known from its number and values: no two answers have the same, but that a join refused with 11 may name
+-- packet 0 or be refused plainly. Assumes nothing.
+use Prim.Native.Nat.{ℕ, zero, suc}
+use mathlib.Core.Path.{_≡_, refl, sym, ap, _∙_}
+use mathlib.Core.Bool.{Bool, true, false, _||_}
+use mathlib.Core.List.{List}
+use native.Mathlib.Omega.{arith}
+use lib.Dec.{eqb, ltb}
+use lib.ListN.{length}
+use borrow.Author.Tests.{ne-eqb}
+use Rattle.units.specs.Refusals.{contradiction}
+use Rattle.fields.proofs.Choosing.{whichever}
+use Rattle.frame.specs.Paper.{CountPaper}
+use Rattle.reception.specs.declared.Taken.{Taken}
+use Rattle.reception.specs.declared.Taken.the-variants.{Done as TakenDone, Refused as NotTaken}
+use Rattle.reception.specs.declared.Joined.{Joined}
+use Rattle.reception.specs.declared.Joined.the-variants.{Done as JoinedDone, Contradicted, Refused as NotJoined}
+use Rattle.reception.specs.declared.Reported.{Reported}
+use Rattle.reception.specs.declared.Reported.the-variants.{Done as ReportedDone, Refused as NotReported}
+use Rattle.reception.specs.Hearing.{Kept, heldBy, damagedKept, takenPaper}
+use Rattle.reception.specs.Joining.{JoinOutcome, capacitiesOff, otherRecord, lowest, ownClosingOff, joinRecords, joinedPaper}
+use Rattle.reception.specs.Reporting.{ReportPaper, reportedPaper, Reports}
+
+-- the answer that a paper is of
+takenFrom : ℕ → CountPaper → Taken
+takenFrom zero p = NotTaken (record { number = p .number })
+takenFrom (suc k) p = TakenDone
+
+taken-from : (a : Taken) → takenFrom (takenPaper a .accepted) (takenPaper a) ≡ a
+unfolding takenFrom takenPaper
+taken-from TakenDone = refl
+taken-from (NotTaken r) = refl
+
+pub taken-known : (a b : Taken) → takenPaper a ≡ takenPaper b → a ≡ b
+taken-known a b e = sym (taken-from a) ∙ ap (λ (p : CountPaper). takenFrom (p .accepted) p) e ∙ taken-from b
+
+reportedFrom : ℕ → ReportPaper → Reported
+reportedFrom zero p = NotReported (record { number = p .number })
+reportedFrom (suc k) p =
+    ReportedDone
+    (record {
+      sent = record { 0 = p .sent };
+      «sent_octets» = record { 0 = p .sentOctets };
+      heard = record { 0 = p .heard };
+      «heard_octets» = record { 0 = p .heardOctets };
+      missing = record { 0 = p .missing };
+      «missing_octets» = record { 0 = p .missingOctets };
+      gaps = p .gaps;
+    })
+
+reported-from : (a : Reported) → reportedFrom (reportedPaper a .accepted) (reportedPaper a) ≡ a
+unfolding reportedFrom reportedPaper
+reported-from (ReportedDone r) = refl
+reported-from (NotReported r) = refl
+
+pub reported-known : (a b : Reported) → reportedPaper a ≡ reportedPaper b → a ≡ b
+reported-known a b e = sym (reported-from a) ∙ ap (λ (p : ReportPaper). reportedFrom (p .accepted) p) e ∙ reported-from b
+
+-- refused for another reason than a contradiction, which a join answers with the number that it names
+abbrev pub Plain : Joined → Type 0
+Plain JoinedDone = Unit {0}
+Plain (Contradicted n) = Unit {0}
+Plain (NotJoined r) = r .number ≡ contradiction → ⊥
+
+joinedFrom : ℕ → Bool → CountPaper → Joined
+joinedFrom (suc k) b p = JoinedDone
+joinedFrom zero true p = Contradicted (p .count)
+joinedFrom zero false p = NotJoined (record { number = p .number })
+
+joined-from : (a : Joined) → Plain a → joinedFrom (joinedPaper a .accepted) (eqb (joinedPaper a .number) contradiction) (joinedPaper a) ≡ a
+unfolding joinedFrom joinedPaper
+joined-from JoinedDone h = refl
+joined-from (Contradicted n) h = refl
+joined-from (NotJoined r) h = rw (ne-eqb (r .number) contradiction h)
+
+pub joined-known : (a b : Joined) → Plain a → Plain b → joinedPaper a ≡ joinedPaper b → a ≡ b
+joined-known a b f g e =
+    sym (joined-from a f) ∙ ap (λ (p : CountPaper). joinedFrom (p .accepted) (eqb (p .number) contradiction) p) e ∙ joined-from b g
+
+-- every answer of a join is plain
+abbrev AnswersPlain : JoinOutcome → Type 0
+AnswersPlain o = Plain (o .answer)
+
+pub join-plain : (a b : Kept) → Plain (joinRecords a b .answer)
+unfolding joinRecords
+join-plain a b =
+    whichever AnswersPlain _ _ (capacitiesOff a b) (λ e. omega (arith, e))
+    (λ _.
+    whichever AnswersPlain _ _ (damagedKept a || damagedKept b) (λ e. omega (arith, e))
+    (λ _.
+    whichever AnswersPlain _ _ (otherRecord a b) (λ e. omega (arith, e))
+    (λ _.
+    whichever AnswersPlain _ _ (ltb (lowest (heldBy a) (heldBy b)) (length (a .marks))) tt
+    (λ _. whichever AnswersPlain _ _ (ownClosingOff (heldBy a) (heldBy b)) tt (λ _. tt)))))
+
+-- the two answers of one paper
+pub eleven-twice : joinedPaper (Contradicted 0) ≡ joinedPaper (NotJoined (record { number = contradiction }))
+unfolding joinedPaper
+eleven-twice = refl
+
+-- a report and what it leaves are one
+module _ (k : Kept) (firsts counts octets : List ℕ) (r q : Reported) (f₁ c₁ o₁ f₂ c₂ o₂ : List ℕ) where
+  pub report-once : Reports k firsts counts octets r f₁ c₁ o₁ → Reports k firsts counts octets q f₂ c₂ o₂ → (r ≡ q) × (f₁ ≡ f₂) × (c₁ ≡ c₂) × (o₁ ≡ o₂)
+  report-once x y = (
+    reported-known r q (x .says ∙ sym (y .says)),
+    x .leaves-firsts ∙ sym (y .leaves-firsts),
+    x .leaves-counts ∙ sym (y .leaves-counts),
+    x .leaves-octets ∙ sym (y .leaves-octets),
+  )
