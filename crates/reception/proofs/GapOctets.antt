@@ -78,7 +78,7 @@ pub record Covers (r : Held) (s : List ℕ) : Type 0 where
   pub room : length s ≤ r .capacity
 
 module _ (r : Held) (s : List ℕ) (x : Covers r s) where
-  heard-sent : (k : ℕ) → k < length s → isHeard r k ≡ true → Sent s k (r .elapsed k) (r .size k)
+  pub heard-sent : (k : ℕ) → k < length s → isHeard r k ≡ true → Sent s k (r .elapsed k) (r .size k)
   heard-sent k lt h = x .explains .packets k (record { below = omega (arith, x .room); marked = eqb-true _ _ h })
 
   -- nothing was heard past its end

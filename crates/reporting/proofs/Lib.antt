@@ -1,0 +1,5 @@
+pub mod Answered
+pub mod Counted
+pub mod CountedReport
+pub mod GapPut
+pub mod GapsWritten
