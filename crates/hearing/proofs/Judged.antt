@@ -6,7 +6,7 @@ use mathlib.Core.Bool.{true, false}
 use mathlib.Core.List.{List}
 use native.Mathlib.Omega.{arith}
 use lib.Dec.{ltb}
-use lib.ListN.{length, getD, replicate, List·getD-eq-default}
+use lib.ListN.{length, replicate, List·getD-eq-default}
 use borrow.Author.Tests.{not-false, lt-ltb, le-ltb}
 use Rattle.units.specs.Limits.{lastStamp}
 use Rattle.units.specs.Refusals.{stampTooHigh, recordDamaged, capacitiesDiffer}

@@ -1,18 +1,15 @@
 -- How numbers are read as a head, and how answers about records meet the promise of the exported functions. Assumes nothing.
 use Prim.Native.Nat.{ℕ, _≤_, _<_}
 use mathlib.Core.Path.{_≡_, refl, sym, ap, _∙_}
-use mathlib.Core.Bool.{Bool, true, false, cond}
 use mathlib.Core.List.{List, [], _∷_}
 use native.Mathlib.Omega.{arith}
-use lib.Dec.{ltb, eqb}
+use lib.Dec.{eqb}
 use lib.ListN.{length, getD, set}
 use borrow.Author.Tests.{lt-ltb, le-ltb}
 use Rattle.units.specs.declared.Refusal.{Refusal}
 use Rattle.units.specs.Refusals.{capacitiesDiffer}
-use Rattle.fields.specs.Choice.{_when_otherwise_}
 use Rattle.fields.specs.Runs.{front}
 use Rattle.frame.specs.Paper.{CountPaper}
-use Rattle.reception.specs.declared.Head.{Head}
 use Rattle.reception.specs.declared.Taken.{Taken}
 use Rattle.reception.specs.declared.Taken.the-variants.{Done, Refused}
 use Rattle.reception.specs.declared.Taking.{Taking}

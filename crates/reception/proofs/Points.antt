@@ -2,15 +2,15 @@
 -- them are within reach of each other; and if they are, the walk accepts. Assumes nothing.
 use Prim.Native.Nat.{ℕ, zero, suc, _+_, _*_, _-_, _≤_}
 use mathlib.Core.Path.{_≡_, refl, sym, ap, _∙_}
-use mathlib.Core.Logic.{_⊎_, inl, inr, ⊎-elim}
-use mathlib.Core.Bool.{Bool, true, false, not, _&&_, _||_, false≢true}
+use mathlib.Core.Logic.{_⊎_, ⊎-elim}
+use mathlib.Core.Bool.{Bool, true, false, not, _&&_, _||_}
 use mathlib.Core.List.{List}
 use native.Mathlib.Omega.{arith}
 use lib.Dec.{leb, ltb}
 use lib.ListN.{length, List·getD-eq-default}
 use borrow.Author.Tests.{le-leb, lt-leb, leb-true, leb-false, ltb-true, ltb-false, eqb-true}
 use Rattle.units.specs.Limits.{mostPayload}
-use Rattle.fields.proofs.Tests.{either, both, and-yes, or-true}
+use Rattle.fields.proofs.Tests.{either, both, and-yes}
 use Rattle.reception.specs.Sendings.{Held, Heard, Sending, Explains}
 use Rattle.reception.specs.Walk.{reach, fits, ends, mayEnd, isHeard, walk, isExplained}
 use Rattle.reception.proofs.SumsBefore.{Short, before, before-start, before-next, before-end, climb}

@@ -3,10 +3,10 @@ mod counting;
 mod writing;
 
 use counting::count;
+use damage::lists_differ;
 use reception::Head;
 use reception::Reported;
 use units::Refusal;
-use units::limits::MOST_CAPACITY;
 use units::refusals::CAPACITIES_DIFFER;
 use units::refusals::NO_ROOM;
 use units::refusals::RECORD_DAMAGED;
@@ -15,21 +15,8 @@ ghost use mathlib.Core.Path.{_≡_};
 ghost use Prim.Native.Nat.{min};
 ghost use Rattle.units.specs.Refusals.{refusing};
 ghost use Rattle.reception.specs.declared.Reported.the-variants.{Refused};
-ghost use Rattle.reception.specs.Hearing.{keptIn, listsDiffer};
+ghost use Rattle.reception.specs.Hearing.{keptIn};
 ghost use Rattle.reception.specs.Reporting.{Reports};
-
-// Whether three lists, by their lengths, are no record's.
-fn lists_differ(marks: usize, elapsed: usize, sizes: usize) -> bool
-    ensures { λ r. ⌜ r ≡ listsDiffer marks elapsed sizes ⌝ }
-{
-    if MOST_CAPACITY < marks as u64 {
-        return true;
-    }
-    if elapsed != marks {
-        return true;
-    }
-    sizes != marks
-}
 
 // A refusal.
 fn refused(number: u8) -> Reported

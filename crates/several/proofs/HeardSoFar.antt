@@ -1,21 +1,19 @@
 -- Frames heard one after another as a loop goes: what is left to hear from the record as it is leads to the same end. Assumes nothing.
-use Prim.Native.Nat.{ℕ, zero, suc, _+_, _-_, _≤_, _<_, min}
-use mathlib.Core.Path.{_≡_, refl, sym, ap, subst, _∙_}
-use mathlib.Core.Bool.{false}
+use Prim.Native.Nat.{ℕ, suc, _+_, _-_, _≤_, _<_}
+use mathlib.Core.Path.{_≡_, refl, sym, ap, _∙_}
 use mathlib.Core.List.{List, [], _∷_, _++_, map, append-nil}
 use native.Mathlib.Numerals.{add-one}
 use native.Mathlib.Omega.{arith}
-use lib.ListN.{length, getD, take, drop, set, length-set, length-drop, take-append-drop, drop-of-length-le}
-use lib.Seq.{drop-cons, take-suc-set, drop-set-lt, append-snoc, take-all, take-nil}
+use lib.ListN.{length, getD, take, drop, set, length-set, take-append-drop, drop-of-length-le}
+use lib.Seq.{drop-cons, take-suc-set, drop-set-lt, append-snoc}
 use Rattle.fields.specs.Runs.{front}
 use Rattle.frame.specs.Paper.{CountPaper}
 use Rattle.reception.specs.declared.Head.{Head}
-use Rattle.reception.specs.declared.Taken.{Taken}
-use Rattle.reception.specs.Hearing.{Kept, keptIn, damagedKept, unmatched, hearFrame}
+use Rattle.reception.specs.Hearing.{Kept, keptIn, hearFrame}
 use Rattle.reception.specs.Neighbours.{NoneBefore, NoneFrom}
 use Rattle.reception.specs.Several.{hearAll, answers, numberOf, framesIn}
 use Rattle.reception.proofs.HearingUndamaged.{stays-sound}
-use Rattle.reception.proofs.WhatHearingAdds.{Sound, sound-lists}
+use Rattle.reception.proofs.WhatHearingAdds.{Sound}
 use Rattle.hearing.specs.declared.following.Following.{Following}
 use Rattle.hearing.specs.Following.{Follows}
 use Rattle.several.specs.Rest.{HearsAll}

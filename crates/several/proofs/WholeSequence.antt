@@ -1,23 +1,21 @@
 -- A whole sequence heard at once: its refusals in their order, and the empty record that it begins with. Assumes nothing.
 use Prim.Native.Nat.{ℕ, suc, _-_, _≤_, _<_}
-use mathlib.Core.Path.{_≡_, refl, sym, ap, _∙_}
+use mathlib.Core.Path.{_≡_, refl, ap, _∙_}
 use mathlib.Core.Bool.{true, false}
-use mathlib.Core.List.{List, [], _∷_, map}
+use mathlib.Core.List.{List, [], _∷_}
 use native.Mathlib.Omega.{arith}
-use lib.Dec.{ltb}
-use lib.ListN.{length, getD, take, drop, replicate, length-replicate}
+use lib.ListN.{length, replicate}
 use borrow.Author.Tests.{lt-ltb, le-ltb}
 use Rattle.units.specs.Limits.{lastStamp, mostCapacity}
 use Rattle.units.specs.Refusals.{stampTooHigh, noRoom, capacitiesDiffer}
-use Rattle.fields.specs.Runs.{front}
 use Rattle.reception.specs.declared.Head.{Head}
 use Rattle.reception.specs.declared.Taken.{Taken}
 use Rattle.reception.specs.declared.Taken.the-variants.{Done}
 use Rattle.reception.specs.declared.Taking.{Taking}
 use Rattle.reception.specs.Damage.{Matched}
 use Rattle.reception.specs.Neighbours.{NoneBefore, NoneFrom}
-use Rattle.reception.specs.Hearing.{Kept, keptIn, Outcome, refuses, takes, keeps, unmatched, damagedKept, openHead, unused, emptyKept}
-use Rattle.reception.specs.Several.{hearAll, answers, numberOf, framesIn, hearSequence, numbersAfter}
+use Rattle.reception.specs.Hearing.{Kept, keptIn, Outcome, refuses, takes, keeps, unmatched, damagedKept, openHead, emptyKept}
+use Rattle.reception.specs.Several.{hearAll, answers, framesIn, hearSequence}
 use Rattle.reception.proofs.KeptAsHeld.{read-zeros}
 use Rattle.reception.proofs.WhatHearingAdds.{sound-lists}
 use Rattle.reception.proofs.HearingUndamaged.{empty-sound}

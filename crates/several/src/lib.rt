@@ -1,9 +1,9 @@
 // A whole sequence heard at once: an empty record, and frames that stand in one row of octets. The record is never judged again, so
 // the cost is that of the frames and of emptying the record.
+use damage::lists_differ;
 use hearing::following::empty_span;
 use hearing::following::hear_next;
 use hearing::taking::clear;
-use hearing::taking::lists_differ;
 use hearing::taking::open_head;
 use hearing::taking::refused;
 use reception::Head;

@@ -1,12 +1,8 @@
 -- `damage::lists_differ` meets its contract. Assumes nothing.
 use borrow.Author.Tests.{eq-eqb, ne-eqb, lt-ltb, le-ltb}
 use Rattle.reception.specs.Hearing.{listsDiffer}
-use native.Mathlib.Omega.{arith}
-use borrow.Author.Needs.{needs}
 use Rattle.damage.proofs.lists_differ.Statement.{statement}
 use Rattle.damage.proofs.lists_differ.Tie as tie
-use Rattle.damage.proofs.lists_differ.Reads as reads
-use Rattle.damage.proofs.lists_differ.Lts as lts
 
 returns : tie.Need-returns
 unfolding listsDiffer

@@ -6,12 +6,8 @@ use lib.Dec.{eqb}
 use Rattle.reception.specs.declared.Head.{Head}
 use borrow.Author.Tests.{eq-eqb, ne-eqb}
 use Rattle.reception.specs.Hearing.{otherKey}
-use native.Mathlib.Omega.{arith}
-use borrow.Author.Needs.{needs}
 use Rattle.damage.proofs.other_key.Statement.{statement}
 use Rattle.damage.proofs.other_key.Tie as tie
-use Rattle.damage.proofs.other_key.Reads as reads
-use Rattle.damage.proofs.other_key.Lts as lts
 
 -- of a key, the stamp decides where bearer and period are the record's
 by-stamp : (h : Head) (bearer period stamp : ℕ) → h .bearer ≡ bearer → h .period ≡ period → not (eqb (h .stamp) stamp) ≡ otherKey h bearer period stamp

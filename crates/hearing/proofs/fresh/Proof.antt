@@ -2,19 +2,12 @@
 use mathlib.Core.Path.{refl, sym, _∙_}
 use lib.ListN.{length}
 use denote.Ref.{now}
-use Rattle.hearing.proofs.Answered.{refused-as, taken-as}
+use Rattle.hearing.proofs.Answered.{refused-as}
 use Rattle.reception.proofs.KeptAsHeld.{lists-matched}
 use Rattle.hearing.proofs.Judged.{fresh-unmatched, fresh-high, fresh-taken, empty-as}
-use native.Mathlib.Omega.{arith}
 use borrow.Author.Needs.{needs}
 use Rattle.hearing.proofs.fresh.Statement.{statement}
 use Rattle.hearing.proofs.fresh.Tie as tie
-use Rattle.hearing.proofs.fresh.Reads as reads
-use Rattle.hearing.proofs.fresh.Lts as lts
-use Rattle.hearing.proofs.taking.clear.Reads as clear-reads
-use Rattle.damage.proofs.lists_differ.Reads as lists-differ-reads
-use Rattle.hearing.proofs.taking.open_head.Reads as open-head-reads
-use Rattle.hearing.proofs.taking.refused.Reads as refused-reads
 
 lists-differ-requires : tie.Need-lists-differ-requires
 lists-differ-requires c κs = search needs

@@ -1,14 +1,12 @@
 -- `hearing::hear` meets its contract. Assumes nothing.
-use mathlib.Core.Path.{_≡_, refl, sym, _∙_}
+use mathlib.Core.Path.{_≡_, sym, _∙_}
 use mathlib.Core.Bool.{false}
 use lib.ListN.{length}
 use denote.Ref.{now}
 use Rattle.frame.specs.Reading.{readFrame}
 use Rattle.frame.proofs.OnePaper.{read-known}
-use Rattle.frame.proofs.Said.{DataSaid, data-said}
-use Rattle.frame.specs.declared.Read.the-variants.{Data}
-use Rattle.reception.specs.Damage.{Matched}
-use Rattle.reception.specs.Hearing.{listsDiffer, hearRead}
+use Rattle.frame.proofs.Said.{data-said}
+use Rattle.reception.specs.Hearing.{listsDiffer}
 use Rattle.hearing.proofs.Answered.{refused-as}
 use Rattle.reception.proofs.KeptAsHeld.{lists-matched}
 use Rattle.hearing.proofs.Judged.{same-outcome, frame-unmatched, frame-read, unread, closing-only}
@@ -16,13 +14,6 @@ use native.Mathlib.Omega.{arith}
 use borrow.Author.Needs.{needs}
 use Rattle.hearing.proofs.hear.Statement.{statement}
 use Rattle.hearing.proofs.hear.Tie as tie
-use Rattle.hearing.proofs.hear.Reads as reads
-use Rattle.hearing.proofs.hear.Lts as lts
-use Rattle.hearing.proofs.hear_closing.Reads as hear-closing-reads
-use Rattle.hearing.proofs.hear_data.Reads as hear-data-reads
-use Rattle.damage.proofs.lists_differ.Reads as lists-differ-reads
-use Rattle.hearing.proofs.taking.refused.Reads as refused-reads
-use Rattle.reader.proofs.read_frame.Reads as read-frame-reads
 
 -- the lists matched, and what the frame was read as
 even : (c : tie.After-read-frame) → listsDiffer (length (now (c .before .before .before .before .before .before .before .args .marks))) (length (now (c .before .before .before .before .before .before .before .args .elapsed))) (length (now (c .before .before .before .before .before .before .before .args .sizes))) ≡ false

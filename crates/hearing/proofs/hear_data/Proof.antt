@@ -1,18 +1,10 @@
 -- `hearing::hear_data` meets its contract. Assumes nothing.
-use mathlib.Core.Path.{refl, sym, _∙_}
-use denote.Ref.{now}
+use mathlib.Core.Path.{sym, _∙_}
 use Rattle.hearing.proofs.Answered.{refused-as}
 use Rattle.hearing.proofs.Judged.{explained, all-before, all-from, same-outcome, packet-damaged, packet-judged}
-use native.Mathlib.Omega.{arith}
 use borrow.Author.Needs.{needs}
 use Rattle.hearing.proofs.hear_data.Statement.{statement}
 use Rattle.hearing.proofs.hear_data.Tie as tie
-use Rattle.hearing.proofs.hear_data.Reads as reads
-use Rattle.hearing.proofs.hear_data.Lts as lts
-use Rattle.damage.proofs.is_damaged.Reads as is-damaged-reads
-use Rattle.hearing.proofs.taking.refused.Reads as refused-reads
-use Rattle.hearing.proofs.taking.take_packet.Reads as take-packet-reads
-use Rattle.hearing.proofs.whole.Reads as whole-reads
 
 is-damaged-requires : tie.Need-is-damaged-requires
 is-damaged-requires c κs = search needs

@@ -1,24 +1,14 @@
 -- `several::hear_frames` meets its contract. Assumes nothing.
-use mathlib.Core.Path.{refl, sym}
 use Prim.Native.Nat.{_-_}
-use lib.ListN.{length, length-set}
-use denote.Ref.{now}
+use lib.ListN.{length}
 use Rattle.reception.specs.Hearing.{keptIn}
 use Rattle.reception.proofs.KeptAsHeld.{matched-lists}
 use Rattle.reception.proofs.WhatHearingAdds.{sound-lists}
 use Rattle.several.proofs.HeardSoFar.{HeardSoFar, none-yet, one-more-at, all-heard}
 use Rattle.several.proofs.PartOfRow.{part-is}
-use native.Mathlib.Omega.{arith}
 use borrow.Author.Needs.{needs}
 use Rattle.several.proofs.hear_frames.Statement.{statement}
 use Rattle.several.proofs.hear_frames.Tie as tie
-use Rattle.several.proofs.hear_frames.Reads as reads
-use Rattle.several.proofs.hear_frames.Lts as lts
-use Rattle.hearing.proofs.following.empty_span.Reads as empty-span-reads
-use Rattle.hearing.proofs.following.hear_next.Reads as hear-next-reads
-use Rattle.several.proofs.begin_in.Reads as begin-in-reads
-use Rattle.several.proofs.end_in.Reads as end-in-reads
-use Rattle.several.proofs.number_of.Reads as number-of-reads
 
 abbrev Inv-loop : tie.InvT-loop
 Inv-loop bearer period marks₀ elapsed₀ sizes₀ octets ends numbers₀ head₀ span₀ from₀ i₀ marks elapsed sizes numbers head span from i =

@@ -5,17 +5,9 @@ use denote.Ref.{now}
 use Rattle.reception.specs.Damage.{Matched}
 use Rattle.reception.proofs.KeptAsHeld.{lists-matched}
 use Rattle.several.proofs.WholeSequence.{sequence-unmatched, sequence-high, sequence-no-room, sequence-taken, sequence-refused, sequence-heard, empty-is, empty-lists, empty-undamaged, empty-before, empty-from}
-use native.Mathlib.Omega.{arith}
 use borrow.Author.Needs.{needs}
 use Rattle.several.proofs.hear_sequence.Statement.{statement}
 use Rattle.several.proofs.hear_sequence.Tie as tie
-use Rattle.several.proofs.hear_sequence.Reads as reads
-use Rattle.several.proofs.hear_sequence.Lts as lts
-use Rattle.hearing.proofs.taking.clear.Reads as clear-reads
-use Rattle.hearing.proofs.taking.lists_differ.Reads as lists-differ-reads
-use Rattle.hearing.proofs.taking.open_head.Reads as open-head-reads
-use Rattle.hearing.proofs.taking.refused.Reads as refused-reads
-use Rattle.several.proofs.hear_frames.Reads as hear-frames-reads
 
 lists-differ-requires : tie.Need-lists-differ-requires
 lists-differ-requires c κs = search needs

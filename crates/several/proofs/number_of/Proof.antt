@@ -1,15 +1,10 @@
 -- `several::number_of` meets its contract. Assumes nothing.
-use mathlib.Core.Path.{_≡_, refl, sym, ap}
-use Rattle.reception.specs.declared.Taken.{Taken}
-use Rattle.reception.specs.declared.Taken.the-variants.{Done, Refused}
+use mathlib.Core.Path.{sym, ap}
 use Rattle.reception.specs.Hearing.{takenPaper}
 use Rattle.reception.specs.Several.{numberOf}
-use native.Mathlib.Omega.{arith}
 use borrow.Author.Needs.{needs}
 use Rattle.several.proofs.number_of.Statement.{statement}
 use Rattle.several.proofs.number_of.Tie as tie
-use Rattle.several.proofs.number_of.Reads as reads
-use Rattle.several.proofs.number_of.Lts as lts
 
 enum-told : tie.Need-enum-told
 enum-told c = search needs

@@ -1,13 +1,8 @@
 -- `hearing::following::follow` meets its contract. Assumes nothing.
 use Rattle.hearing.proofs.SpanKept.{follow-done, follow-refused}
-use native.Mathlib.Omega.{arith}
 use borrow.Author.Needs.{needs}
 use Rattle.hearing.proofs.following.follow.Statement.{statement}
 use Rattle.hearing.proofs.following.follow.Tie as tie
-use Rattle.hearing.proofs.following.follow.Reads as reads
-use Rattle.hearing.proofs.following.follow.Lts as lts
-use Rattle.hearing.proofs.following.higher.Reads as higher-reads
-use Rattle.hearing.proofs.following.lower.Reads as lower-reads
 
 enum-told : tie.Need-enum-told
 enum-told c = search needs

@@ -3,7 +3,7 @@ use mathlib.Core.Path.{_≡_, sym, _∙_}
 use denote.Ref.{now}
 use Rattle.frame.specs.Reading.{readFrame}
 use Rattle.frame.proofs.OnePaper.{read-known}
-use Rattle.frame.proofs.Said.{DataSaid, data-said}
+use Rattle.frame.proofs.Said.{data-said}
 use Rattle.reception.proofs.KeptAsHeld.{matched-lists}
 use Rattle.hearing.proofs.Judged.{frame-read, packet-judged, closing-judged, closing-only, unread}
 use Rattle.hearing.proofs.SpanKept.{follows-still, same-follows}
@@ -11,11 +11,6 @@ use native.Mathlib.Omega.{arith}
 use borrow.Author.Needs.{needs}
 use Rattle.hearing.proofs.following.hear_next.Statement.{statement}
 use Rattle.hearing.proofs.following.hear_next.Tie as tie
-use Rattle.hearing.proofs.following.hear_next.Reads as reads
-use Rattle.hearing.proofs.following.hear_next.Lts as lts
-use Rattle.hearing.proofs.following.next_closing.Reads as next-closing-reads
-use Rattle.hearing.proofs.following.next_packet.Reads as next-packet-reads
-use Rattle.reader.proofs.read_frame.Reads as read-frame-reads
 
 -- what the frame was read as
 told : (c : tie.After-read-frame) → readFrame (now (c .before .before .before .before .before .args .frame)) ≡ c .read-frame .result

@@ -1,11 +1,8 @@
 -- `hearing::following::higher` meets its contract. Assumes nothing.
 use borrow.Author.Tests.{le-leb, lt-leb}
-use native.Mathlib.Omega.{arith}
 use borrow.Author.Needs.{needs}
 use Rattle.hearing.proofs.following.higher.Statement.{statement}
 use Rattle.hearing.proofs.following.higher.Tie as tie
-use Rattle.hearing.proofs.following.higher.Reads as reads
-use Rattle.hearing.proofs.following.higher.Lts as lts
 
 add-result : tie.Need-add-result
 add-result c = search needs

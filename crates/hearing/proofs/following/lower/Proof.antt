@@ -1,11 +1,7 @@
 -- `hearing::following::lower` meets its contract. Assumes nothing.
 use borrow.Author.Tests.{lt-ltb, le-ltb}
-use native.Mathlib.Omega.{arith}
-use borrow.Author.Needs.{needs}
 use Rattle.hearing.proofs.following.lower.Statement.{statement}
 use Rattle.hearing.proofs.following.lower.Tie as tie
-use Rattle.hearing.proofs.following.lower.Reads as reads
-use Rattle.hearing.proofs.following.lower.Lts as lts
 
 returns : tie.Need-returns
 returns c = simp (lt-ltb _ _ (c .if1 .taken))

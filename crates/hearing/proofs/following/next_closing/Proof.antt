@@ -1,13 +1,8 @@
 -- `hearing::following::next_closing` meets its contract. Assumes nothing.
 use Rattle.hearing.proofs.Judged.{explained}
 use Rattle.hearing.proofs.SpanKept.{follows-still}
-use native.Mathlib.Omega.{arith}
-use borrow.Author.Needs.{needs}
 use Rattle.hearing.proofs.following.next_closing.Statement.{statement}
 use Rattle.hearing.proofs.following.next_closing.Tie as tie
-use Rattle.hearing.proofs.following.next_closing.Reads as reads
-use Rattle.hearing.proofs.following.next_closing.Lts as lts
-use Rattle.hearing.proofs.taking.take_closing.Reads as take-closing-reads
 
 take-closing-requires : tie.Need-take-closing-requires
 take-closing-requires c κs =

@@ -1,15 +1,10 @@
 -- `hearing::following::next_packet` meets its contract. Assumes nothing.
-use denote.Ref.{now}
 use Rattle.hearing.proofs.Judged.{explained}
 use Rattle.hearing.proofs.SpanKept.{follows-packet}
 use native.Mathlib.Omega.{arith}
 use borrow.Author.Needs.{needs}
 use Rattle.hearing.proofs.following.next_packet.Statement.{statement}
 use Rattle.hearing.proofs.following.next_packet.Tie as tie
-use Rattle.hearing.proofs.following.next_packet.Reads as reads
-use Rattle.hearing.proofs.following.next_packet.Lts as lts
-use Rattle.hearing.proofs.following.follow.Reads as follow-reads
-use Rattle.hearing.proofs.taking.take_packet.Reads as take-packet-reads
 
 cast-k : tie.Need-cast-k
 cast-k c = search needs

@@ -1,6 +1,5 @@
 -- `hearing::looking::next_fits` meets its contract. Assumes nothing.
 use Prim.Native.Nat.{_-_}
-use lib.ListN.{length}
 use Rattle.reception.specs.Sendings.{heldIn}
 use Rattle.hearing.proofs.NeighboursFound.{Up, up-start, up-found, up-on, up-none}
 use denote.Ref.{now}

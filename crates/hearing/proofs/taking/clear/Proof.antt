@@ -8,8 +8,6 @@ use native.Mathlib.Omega.{arith}
 use borrow.Author.Needs.{needs}
 use Rattle.hearing.proofs.taking.clear.Statement.{statement}
 use Rattle.hearing.proofs.taking.clear.Tie as tie
-use Rattle.hearing.proofs.taking.clear.Reads as reads
-use Rattle.hearing.proofs.taking.clear.Lts as lts
 
 abbrev Inv-loop : tie.InvT-loop
 Inv-loop marks₀ elapsed₀ sizes₀ k₀ marks elapsed sizes k =

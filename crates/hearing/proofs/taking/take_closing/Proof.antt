@@ -1,18 +1,9 @@
 -- `hearing::taking::take_closing` meets its contract. Assumes nothing.
 use mathlib.Core.Path.{refl, sym, _∙_}
-use Rattle.reception.specs.Hearing.{Kept}
 use Rattle.hearing.proofs.Answered.{refused-as, taken-as, closing-other, closing-beyond, closing-off, closing-taken}
-use denote.Ref.{now}
-use native.Mathlib.Omega.{arith}
 use borrow.Author.Needs.{needs}
 use Rattle.hearing.proofs.taking.take_closing.Statement.{statement}
 use Rattle.hearing.proofs.taking.take_closing.Tie as tie
-use Rattle.hearing.proofs.taking.take_closing.Reads as reads
-use Rattle.hearing.proofs.taking.take_closing.Lts as lts
-use Rattle.hearing.proofs.contradicting.closing_contradicts.Reads as closing-contradicts-reads
-use Rattle.hearing.proofs.contradicting.with_closing.Reads as with-closing-reads
-use Rattle.damage.proofs.other_key.Reads as other-key-reads
-use Rattle.hearing.proofs.taking.refused.Reads as refused-reads
 
 other-key-requires : tie.Need-other-key-requires
 other-key-requires c κs = search needs

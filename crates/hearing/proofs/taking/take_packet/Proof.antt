@@ -1,17 +1,10 @@
 -- `hearing::taking::take_packet` meets its contract. Assumes nothing.
 use mathlib.Core.Path.{refl, sym, _∙_}
-use lib.ListN.{length-set}
 use Rattle.hearing.proofs.Answered.{refused-as, taken-as, packet-other, packet-beyond, packet-off, packet-taken}
-use denote.Ref.{now}
 use native.Mathlib.Omega.{arith}
 use borrow.Author.Needs.{needs}
 use Rattle.hearing.proofs.taking.take_packet.Statement.{statement}
 use Rattle.hearing.proofs.taking.take_packet.Tie as tie
-use Rattle.hearing.proofs.taking.take_packet.Reads as reads
-use Rattle.hearing.proofs.taking.take_packet.Lts as lts
-use Rattle.hearing.proofs.contradicting.packet_contradicts.Reads as packet-contradicts-reads
-use Rattle.damage.proofs.other_key.Reads as other-key-reads
-use Rattle.hearing.proofs.taking.refused.Reads as refused-reads
 
 other-key-requires : tie.Need-other-key-requires
 other-key-requires c κs = search needs

@@ -1,13 +1,9 @@
 -- `quimdoral::records::head_of` meets its contract. Assumes nothing.
 use mathlib.Core.Path.{sym, _∙_}
 use Rattle.quimdoral.proofs.RecordsKept.{wide-bearer, wide-period, wide-stamp, odd-closed, wide-count, a-head}
-use native.Mathlib.Omega.{arith}
 use borrow.Author.Needs.{needs}
 use Rattle.quimdoral.proofs.records.head_of.Statement.{statement}
 use Rattle.quimdoral.proofs.records.head_of.Tie as tie
-use Rattle.quimdoral.proofs.records.head_of.Reads as reads
-use Rattle.quimdoral.proofs.records.head_of.Lts as lts
-use Rattle.quimdoral.proofs.records.no_head.Reads as no-head-reads
 
 shared-slice-read-bearer : tie.Need-shared-slice-read-bearer
 shared-slice-read-bearer c = search needs

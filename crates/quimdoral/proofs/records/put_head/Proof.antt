@@ -1,14 +1,10 @@
 -- `quimdoral::records::put_head` meets its contract. Assumes nothing.
 use lib.ListN.{length-set}
-use denote.Ref.{now}
 use Rattle.quimdoral.proofs.RecordsKept.{six}
 use native.Mathlib.Omega.{arith}
 use borrow.Author.Needs.{needs}
 use Rattle.quimdoral.proofs.records.put_head.Statement.{statement}
 use Rattle.quimdoral.proofs.records.put_head.Tie as tie
-use Rattle.quimdoral.proofs.records.put_head.Reads as reads
-use Rattle.quimdoral.proofs.records.put_head.Lts as lts
-use Rattle.quimdoral.proofs.records.closed_number.Reads as closed-number-reads
 
 closed-number-requires : tie.Need-closed-number-requires
 closed-number-requires c κs = search needs

@@ -1,15 +1,8 @@
 -- `quimdoral::records::quimdoral_fresh` meets its contract. Assumes nothing.
-use mathlib.Core.Path.{refl}
-use denote.Ref.{now}
 use Rattle.quimdoral.proofs.RecordsKept.{no-room, refused-kept, taken-kept}
-use native.Mathlib.Omega.{arith}
 use borrow.Author.Needs.{needs}
 use Rattle.quimdoral.proofs.records.quimdoral_fresh.Statement.{statement}
 use Rattle.quimdoral.proofs.records.quimdoral_fresh.Tie as tie
-use Rattle.quimdoral.proofs.records.quimdoral_fresh.Reads as reads
-use Rattle.quimdoral.proofs.records.quimdoral_fresh.Lts as lts
-use Rattle.hearing.proofs.fresh.Reads as fresh-reads
-use Rattle.quimdoral.proofs.records.put_head.Reads as put-head-reads
 
 returns : tie.Need-returns
 returns c = no-room _ _ _ (c .if1 .taken)

@@ -1,16 +1,8 @@
 -- `quimdoral::records::quimdoral_hear` meets its contract. Assumes nothing.
-use mathlib.Core.Path.{refl}
-use denote.Ref.{now}
 use Rattle.quimdoral.proofs.RecordsKept.{no-room, refused-kept, taken-kept}
-use native.Mathlib.Omega.{arith}
 use borrow.Author.Needs.{needs}
 use Rattle.quimdoral.proofs.records.quimdoral_hear.Statement.{statement}
 use Rattle.quimdoral.proofs.records.quimdoral_hear.Tie as tie
-use Rattle.quimdoral.proofs.records.quimdoral_hear.Reads as reads
-use Rattle.quimdoral.proofs.records.quimdoral_hear.Lts as lts
-use Rattle.hearing.proofs.hear.Reads as hear-reads
-use Rattle.quimdoral.proofs.records.head_of.Reads as head-of-reads
-use Rattle.quimdoral.proofs.records.put_head.Reads as put-head-reads
 
 returns : tie.Need-returns
 returns c = no-room _ _ _ (c .if1 .taken)

@@ -1,14 +1,8 @@
 -- `quimdoral::records::quimdoral_hear_all` meets its contract. Assumes nothing.
-use denote.Ref.{now}
 use Rattle.quimdoral.proofs.RecordsKept.{no-room, refused-kept, taken-kept, no-numbers, told-numbers}
-use native.Mathlib.Omega.{arith}
 use borrow.Author.Needs.{needs}
 use Rattle.quimdoral.proofs.records.quimdoral_hear_all.Statement.{statement}
 use Rattle.quimdoral.proofs.records.quimdoral_hear_all.Tie as tie
-use Rattle.quimdoral.proofs.records.quimdoral_hear_all.Reads as reads
-use Rattle.quimdoral.proofs.records.quimdoral_hear_all.Lts as lts
-use Rattle.quimdoral.proofs.records.put_head.Reads as put-head-reads
-use Rattle.several.proofs.hear_sequence.Reads as hear-sequence-reads
 
 returns : tie.Need-returns
 returns c = (no-room _ _ _ (c .if1 .taken), no-numbers _ _ _ _ (c .if1 .taken))
