@@ -1,1 +1,3 @@
 pub mod RecordsKept
+pub mod ReportsTold
+pub mod StoredInFront

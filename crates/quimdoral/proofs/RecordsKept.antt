@@ -1,10 +1,10 @@
 -- How numbers are read as a head, and how answers about records meet the promise of the exported functions. Assumes nothing.
 use Prim.Native.Nat.{ℕ, _≤_, _<_}
 use mathlib.Core.Path.{_≡_, refl, sym, ap, _∙_}
-use mathlib.Core.List.{List, [], _∷_}
+use mathlib.Core.List.{List}
 use native.Mathlib.Omega.{arith}
 use lib.Dec.{eqb}
-use lib.ListN.{length, getD, set}
+use lib.ListN.{length, getD}
 use borrow.Author.Tests.{lt-ltb, le-ltb}
 use Rattle.units.specs.declared.Refusal.{Refusal}
 use Rattle.units.specs.Refusals.{capacitiesDiffer}
@@ -58,17 +58,6 @@ module _ (ns : List ℕ) where
           unfolding headOf
           a-head n =
               rw (le-ltb widest (getD ns 0 0) b, le-ltb widest (getD ns 1 0) p, le-ltb widest (getD ns 2 0) s, le-ltb 1 (getD ns 3 0) c, le-ltb widest (getD ns 4 0) n) refl
-
--- six stores are six numbers in front
-pub six : (s : List ℕ) (a b c d e f : ℕ) → 6 ≤ length s → set (set (set (set (set (set s 0 a) 1 b) 2 c) 3 d) 4 e) 5 f ≡ front s (a ∷ b ∷ c ∷ d ∷ e ∷ f ∷ [])
-unfolding front
-six [] a b c d e f h = absurd (omega arith)
-six (x0 ∷ []) a b c d e f h = absurd (omega arith)
-six (x0 ∷ x1 ∷ []) a b c d e f h = absurd (omega arith)
-six (x0 ∷ x1 ∷ x2 ∷ []) a b c d e f h = absurd (omega arith)
-six (x0 ∷ x1 ∷ x2 ∷ x3 ∷ []) a b c d e f h = absurd (omega arith)
-six (x0 ∷ x1 ∷ x2 ∷ x3 ∷ x4 ∷ []) a b c d e f h = absurd (omega arith)
-six (x0 ∷ x1 ∷ x2 ∷ x3 ∷ x4 ∷ x5 ∷ s) a b c d e f h = refl
 
 -- a list too short for a head
 pub no-room : (old : List ℕ) (k : Kept) (t : Outcome) → length old < 6 → Keeps old k t capacitiesDiffer old (k .marks) (k .elapsed) (k .sizes)

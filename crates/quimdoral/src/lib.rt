@@ -1,6 +1,7 @@
 // The library as C and Rust link it: functions on numbers and slices, each a call of the proved function of its layer and with
 // the same promise. A slice is passed as a pointer and a length.
 mod records;
+mod reports;
 
 use frame::Read;
 use units::refusals::NO_ROOM;

@@ -34,7 +34,7 @@ fn no_head() -> Head
 }
 
 // The head that six numbers say.
-fn head_of(numbers: &[u64]) -> Head
+pub fn head_of(numbers: &[u64]) -> Head
     requires { ⌜ 6 ≤ length (now numbers) ⌝ }
     ensures { λ r. ⌜ r ≡ headOf (now (numbers .entry)) ⌝ }
 {
@@ -79,7 +79,7 @@ fn closed_number(h: Head) -> u64
 }
 
 // A head's numbers in front of a list.
-fn put_head(numbers: &mut [u64], h: Head)
+pub fn put_head(numbers: &mut [u64], h: Head)
     requires { ⌜ 6 ≤ length (now numbers) ⌝ }
     ensures { λ _. ⌜ now (numbers .exit) ≡ front (now (numbers .entry)) (numbersOf h) ⌝ }
 {

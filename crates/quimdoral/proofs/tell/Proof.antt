@@ -1,27 +1,13 @@
 -- `quimdoral::tell` meets its contract: seven stores are the seven values in front. Assumes nothing.
-use mathlib.Core.Path.{_≡_, refl}
-use mathlib.Core.List.{List, [], _∷_}
-use Prim.Native.Nat.{ℕ, _≤_}
-use lib.ListN.{length, set, length-set}
+use lib.ListN.{length-set}
 use borrow.Author.Tests.{lt-ltb, le-ltb}
 use denote.Ref.{now}
 use Rattle.fields.specs.Runs.{front}
 use native.Mathlib.Omega.{arith}
 use borrow.Author.Needs.{needs}
+use Rattle.quimdoral.proofs.StoredInFront.{seven}
 use Rattle.quimdoral.proofs.tell.Statement.{statement}
 use Rattle.quimdoral.proofs.tell.Tie as tie
-
-seven : (s : List ℕ) (a b c d e f g : ℕ) → 7 ≤ length s
-    → set (set (set (set (set (set (set s 0 a) 1 b) 2 c) 3 d) 4 e) 5 f) 6 g ≡ front s (a ∷ b ∷ c ∷ d ∷ e ∷ f ∷ g ∷ [])
-unfolding front
-seven [] a b c d e f g h = absurd (omega arith)
-seven (x0 ∷ []) a b c d e f g h = absurd (omega arith)
-seven (x0 ∷ x1 ∷ []) a b c d e f g h = absurd (omega arith)
-seven (x0 ∷ x1 ∷ x2 ∷ []) a b c d e f g h = absurd (omega arith)
-seven (x0 ∷ x1 ∷ x2 ∷ x3 ∷ []) a b c d e f g h = absurd (omega arith)
-seven (x0 ∷ x1 ∷ x2 ∷ x3 ∷ x4 ∷ []) a b c d e f g h = absurd (omega arith)
-seven (x0 ∷ x1 ∷ x2 ∷ x3 ∷ x4 ∷ x5 ∷ []) a b c d e f g h = absurd (omega arith)
-seven (x0 ∷ x1 ∷ x2 ∷ x3 ∷ x4 ∷ x5 ∷ x6 ∷ s) a b c d e f g h = refl
 
 returns : tie.Need-returns
 returns c =

@@ -1,6 +1,6 @@
 -- `quimdoral::records::put_head` meets its contract. Assumes nothing.
 use lib.ListN.{length-set}
-use Rattle.quimdoral.proofs.RecordsKept.{six}
+use Rattle.quimdoral.proofs.StoredInFront.{six}
 use native.Mathlib.Omega.{arith}
 use borrow.Author.Needs.{needs}
 use Rattle.quimdoral.proofs.records.put_head.Statement.{statement}
