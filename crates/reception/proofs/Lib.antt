@@ -21,6 +21,7 @@ pub mod OnePaper
 pub mod Points
 pub mod RefusalChangesNothing
 pub mod ReportAccounts
+pub mod ReportSaid
 pub mod SmallReports
 pub mod StaysUndamaged
 pub mod SumsBefore

@@ -69,6 +69,16 @@ pub record Accounts (r : Held) (s : List ℕ) : Type 0 where
   pub missing-octets : sentOctets r - heardOctets r ≡ unheardSum r s (length s)
   pub gap-octets : Every (λ (g : Gap). g .octets ≡ octetsFrom s (g .first) (g .count)) (gapsOf r)
 
+-- the same of the numbers that an answer gives
+pub record Says (t : Report) (r : Held) (s : List ℕ) : Type 0 where
+  pub sent : t .sent .0 ≡ length s
+  pub sent-octets : t .«sent_octets» .0 ≡ sumOf s
+  pub heard : t .heard .0 ≡ heardTo r (length s)
+  pub heard-octets : t .«heard_octets» .0 ≡ heardSum r s (length s)
+  pub missing : t .missing .0 ≡ unheardTo r (length s)
+  pub missing-octets : t .«missing_octets» .0 ≡ unheardSum r s (length s)
+  pub gaps : t .gaps ≡ length (gapsOf r)
+
 -- that nothing is counted twice or left out: what was heard and what is missing make up what was sent
 pub record AddsUp (r : Held) : Type 0 where
   pub packets : heardPackets r + (sentPackets r - heardPackets r) ≡ sentPackets r

@@ -1,18 +1,16 @@
 -- How each answer meets the promise of a report. Assumes nothing.
 use Prim.Native.Nat.{ℕ, _≤_, _<_, min}
 use mathlib.Core.Path.{_≡_, refl, ap}
-use mathlib.Core.Bool.{true, false}
 use mathlib.Core.List.{List, map}
 use native.Mathlib.Omega.{arith}
 use lib.ListN.{length}
-use borrow.Author.Tests.{lt-ltb, le-ltb}
-use Rattle.units.specs.Refusals.{refusing, noRoom, recordDamaged, capacitiesDiffer}
+use Rattle.units.specs.Refusals.{refusing}
 use Rattle.fields.specs.Runs.{front}
 use Rattle.reception.specs.declared.Report.{Report}
 use Rattle.reception.specs.declared.Reported.{Reported}
 use Rattle.reception.specs.declared.Reported.the-variants.{Done, Refused}
 use Rattle.reception.specs.Sendings.{Held}
-use Rattle.reception.specs.Hearing.{Kept, heldBy, unmatched, damagedKept}
+use Rattle.reception.specs.Hearing.{Kept, heldBy}
 use Rattle.reception.specs.Reporting.{Gap, gapsOf, reportOf, reportRecord, gapsAfter, roomOf, Reports}
 use Rattle.reporting.specs.Writing.{Room}
 
@@ -31,26 +29,6 @@ module _ (k : Kept) (firsts counts octets : List ℕ) where
       → Reports k firsts counts octets r firsts′ counts′ octets′
   unfolding gapsAfter
   done-as e q f c o = record { says = rw (e, q) refl; leaves-firsts = rw e f; leaves-counts = rw e c; leaves-octets = rw e o }
-
--- the tests in their order
-module _ (k : Kept) (room : ℕ) where
-  pub report-unmatched : unmatched k ≡ true → reportRecord k room ≡ Refused (refusing capacitiesDiffer)
-  unfolding reportRecord
-  report-unmatched m = rw m refl
-
-  module _ (m : unmatched k ≡ false) where
-    pub report-damaged : damagedKept k ≡ true → reportRecord k room ≡ Refused (refusing recordDamaged)
-    unfolding reportRecord
-    report-damaged d = rw (m, d) refl
-
-    module _ (d : damagedKept k ≡ false) where
-      pub report-no-room : room < length (gapsOf (heldBy k)) → reportRecord k room ≡ Refused (refusing noRoom)
-      unfolding reportRecord
-      report-no-room h = rw (m, d, lt-ltb room (length (gapsOf (heldBy k))) h) refl
-
-      pub report-done : length (gapsOf (heldBy k)) ≤ room → reportRecord k room ≡ Done (reportOf (heldBy k))
-      unfolding reportRecord
-      report-done h = rw (m, d, le-ltb room (length (gapsOf (heldBy k))) h) refl
 
 -- the room, by the lengths of the lists as they are compared
 module _ (r : Held) (firsts counts octets : List ℕ) (x y : ℕ) (p : y ≡ min (length counts) (length octets)) (q : x ≡ min (length firsts) y) (t : Report)

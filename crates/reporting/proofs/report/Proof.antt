@@ -4,7 +4,8 @@ use denote.Ref.{now}
 use Rattle.reception.specs.declared.Report.{Report}
 use Rattle.reception.specs.declared.Reported.the-variants.{Done}
 use Rattle.reception.proofs.KeptAsHeld.{lists-matched}
-use Rattle.reporting.proofs.Answered.{refused-as, done-as, report-unmatched, report-damaged, report-no-room, report-done, too-many, few-enough, room-for}
+use Rattle.reception.proofs.ReportSaid.{report-unmatched, report-damaged, report-no-room, report-done}
+use Rattle.reporting.proofs.Answered.{refused-as, done-as, too-many, few-enough, room-for}
 use borrow.Author.Needs.{needs}
 use Rattle.reporting.proofs.report.Statement.{statement}
 use Rattle.reporting.proofs.report.Tie as tie
@@ -58,7 +59,7 @@ returns-3 c =
     let e = u .before .before in
     let a = e .before .before .before .before .before .before .before .before .args in
     refused-as _ _ _ _ _
-    (report-no-room _ _ (sym (e .before .lists-differ .ensures) ∙ e .if1 .left) (sym (u .before .is-damaged .ensures) ∙ u .if2 .left)
+    (report-no-room _ _ (record { matched = sym (e .before .lists-differ .ensures) ∙ e .if1 .left; undamaged = sym (u .before .is-damaged .ensures) ∙ u .if2 .left })
     (too-many _ (now (a .firsts)) (now (a .counts)) (now (a .octets)) _ _ (l .before .least .ensures) (l .least2 .ensures) _ (n .count .ensures) (t .if3 .taken)))
     (c .refused3 .ensures)
 
@@ -101,7 +102,7 @@ returns-4 c =
     let e = u .before .before in
     let a = e .before .before .before .before .before .before .before .before .args in
     done-as _ _ _ _
-    (report-done _ _ (sym (e .before .lists-differ .ensures) ∙ e .if1 .left) (sym (u .before .is-damaged .ensures) ∙ u .if2 .left)
+    (report-done _ _ (record { matched = sym (e .before .lists-differ .ensures) ∙ e .if1 .left; undamaged = sym (u .before .is-damaged .ensures) ∙ u .if2 .left })
     (few-enough _ (now (a .firsts)) (now (a .counts)) (now (a .octets)) _ _ (l .before .least .ensures) (l .least2 .ensures) _ (n .count .ensures) (t .if3 .left)))
     (ap Done (n .count .ensures)) (g .write-gaps .ensures .0) (g .write-gaps .ensures .1) (g .write-gaps .ensures .2)
 
