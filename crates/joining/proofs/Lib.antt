@@ -1,0 +1,5 @@
+pub mod Answered
+pub mod BesideFound
+pub mod Judged
+pub mod LowestSearched
+pub mod UnionWritten

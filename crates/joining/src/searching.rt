@@ -1,0 +1,146 @@
+// The lowest packet number of the right record that alone contradicts the left: one pass over the right, and along with it one over
+// the left, which goes on from where it stood.
+ghost use mathlib.Core.Path.{_≡_};
+ghost use mathlib.Core.Bool.{true, _&&_};
+ghost use Prim.Native.Nat.{_+_, _-_, _≤_, _<_};
+ghost use lib.Dec.{eqb};
+ghost use lib.ListN.{length};
+ghost use Rattle.reception.specs.Sendings.{heldIn};
+ghost use Rattle.reception.specs.Walk.{isExplained};
+ghost use Rattle.reception.specs.Damage.{Matched};
+ghost use Rattle.reception.specs.Adding.{packetContradicts};
+ghost use Rattle.reception.specs.Neighbours.{nextFits};
+ghost use Rattle.joining.specs.Beside.{FirstFrom, BesideIs, LowestFound};
+use damage::from_u16;
+use damage::from_u32;
+use damage::is_fit;
+use damage::may_end;
+use hearing::contradicting::differs;
+use reception::Head;
+
+// Where the last packet heard below a number ends, and the first place from that number on in which one was heard.
+pub struct Beside {
+    pub number: u64,
+    pub octets: u64,
+    pub next: usize,
+}
+
+// The first place from a place on in which a packet was heard, or the place behind them all.
+fn next_heard(marks: &[u8], from: usize) -> usize
+    requires { ⌜ from ≤ length (now marks) ⌝ }
+    ensures { λ r. ⌜ FirstFrom (now (marks .entry)) from r ⌝ }
+{
+    let mut j = from;
+    while j < marks.len() {
+        if marks[j] == 1 {
+            break;
+        }
+        j += 1;
+    }
+    j
+}
+
+// Beside the number after k.
+fn moved_on(b: Beside, marks: &[u8], elapsed: &[u32], sizes: &[u16], k: usize) -> Beside
+    requires { ⌜ Matched (now marks) (now elapsed) (now sizes) ⌝ }
+    requires { ⌜ BesideIs (now marks) (now elapsed) (now sizes) k (b .number) (b .octets) (b .next) ⌝ }
+    requires { ⌜ k < length (now marks) ⌝ }
+    ensures { λ r. ⌜ BesideIs (now (marks .entry)) (now (elapsed .entry)) (now (sizes .entry)) (k + 1) (r .number) (r .octets) (r .next) ⌝ }
+{
+    if k < b.next {
+        return b;
+    }
+    let e = from_u32(elapsed[k]);
+    let l = from_u16(sizes[k]);
+    Beside {
+        number: k as u64 + 1,
+        octets: e + l,
+        next: next_heard(marks, k + 1),
+    }
+}
+
+// Whether the next packet heard, or else the closing, can come after a packet k that ends at a octets.
+fn next_follows(
+    h: Head,
+    next: usize,
+    marks: &[u8],
+    elapsed: &[u32],
+    sizes: &[u16],
+    k: usize,
+    a: u64,
+) -> bool
+    requires { ⌜ Matched (now marks) (now elapsed) (now sizes) ⌝ }
+    requires { ⌜ FirstFrom (now marks) (k + 1) next ⌝ }
+    ensures { λ r. ⌜ r ≡ nextFits (heldIn h (now (marks .entry)) (now (elapsed .entry)) (now (sizes .entry))) (length (now (marks .entry)) - (k + 1)) (k + 1) (k + 1) a ⌝ }
+{
+    if next < marks.len() {
+        let e = from_u32(elapsed[next]);
+        let l = from_u16(sizes[next]);
+        return is_fit(k as u64 + 1, a, next as u64, e, l);
+    }
+    may_end(h, k as u64 + 1, a)
+}
+
+// Whether a packet k of the right, if it was heard (m), alone contradicts the left.
+fn is_off(
+    h: Head,
+    b: Beside,
+    marks: &[u8],
+    elapsed: &[u32],
+    sizes: &[u16],
+    m: u8,
+    k: usize,
+    e: u64,
+    l: u64,
+) -> bool
+    requires { ⌜ Matched (now marks) (now elapsed) (now sizes) ⌝ }
+    requires { ⌜ isExplained (heldIn h (now marks) (now elapsed) (now sizes)) ≡ true ⌝ }
+    requires { ⌜ BesideIs (now marks) (now elapsed) (now sizes) k (b .number) (b .octets) (b .next) ⌝ }
+    requires { ⌜ (k < length (now marks)) × (e < 4294967296) × (l < 65536) ⌝ }
+    ensures { λ r. ⌜ r ≡ (eqb m 1 && packetContradicts (heldIn h (now (marks .entry)) (now (elapsed .entry)) (now (sizes .entry))) k e l) ⌝ }
+{
+    if m != 1 {
+        return false;
+    }
+    if b.next <= k {
+        return differs(from_u32(elapsed[k]), from_u16(sizes[k]), e, l);
+    }
+    if !is_fit(b.number, b.octets, k as u64, e, l) {
+        return true;
+    }
+    !next_follows(h, b.next, marks, elapsed, sizes, k, e + l)
+}
+
+// The lowest packet number of the right that alone contradicts the left, or the capacity where none does.
+pub fn lowest_off(
+    h: Head,
+    marks: &[u8],
+    elapsed: &[u32],
+    sizes: &[u16],
+    r_marks: &[u8],
+    r_elapsed: &[u32],
+    r_sizes: &[u16],
+) -> usize
+    requires { ⌜ Matched (now marks) (now elapsed) (now sizes) ⌝ }
+    requires { ⌜ Matched (now «r_marks») (now «r_elapsed») (now «r_sizes») ⌝ }
+    requires { ⌜ length (now marks) ≡ length (now «r_marks») ⌝ }
+    requires { ⌜ isExplained (heldIn h (now marks) (now elapsed) (now sizes)) ≡ true ⌝ }
+    ensures { λ r. ⌜ LowestFound h (now (marks .entry)) (now (elapsed .entry)) (now (sizes .entry)) (now («r_marks» .entry)) (now («r_elapsed» .entry)) (now («r_sizes» .entry)) r ⌝ }
+{
+    let mut b = Beside {
+        number: 0,
+        octets: 0,
+        next: next_heard(marks, 0),
+    };
+    let mut k: usize = 0;
+    while k < marks.len() {
+        let e = from_u32(r_elapsed[k]);
+        let l = from_u16(r_sizes[k]);
+        if is_off(h, b, marks, elapsed, sizes, r_marks[k], k, e, l) {
+            break;
+        }
+        b = moved_on(b, marks, elapsed, sizes, k);
+        k += 1;
+    }
+    k
+}
