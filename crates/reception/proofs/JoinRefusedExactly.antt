@@ -2,7 +2,7 @@
 -- right that alone contradicts the left, or 65,536 where only its closing does, and changes nothing. Assumes nothing.
 use Prim.Native.Nat.{ℕ, _≤_, _<_}
 use mathlib.Core.Path.{_≡_, refl, sym, ap, _∙_}
-use mathlib.Core.Logic.{_⊎_, inl, inr, _↔_}
+use mathlib.Core.Logic.{_⊎_, inl, inr, ⊎-elim, _↔_}
 use mathlib.Core.Bool.{Bool, true, false, _||_}
 use native.Mathlib.Omega.{arith}
 use lib.Dec.{ltb}
@@ -71,6 +71,13 @@ module _ (a b : Kept) (j : Joinable a b) where
   pub refused-exactly : joinRecords a b .answer ≡ Done ↔ Together (heldBy a) (heldBy b)
   refused-exactly = (done-together, λ t. ap (λ (o : JoinOutcome). o .answer) (together-joins t))
 
+-- the same of any two records
+pub accepted-exactly : (a b : Kept) → joinRecords a b .answer ≡ Done ↔ (Joinable a b × Together (heldBy a) (heldBy b))
+accepted-exactly a b = (
+  λ e. let j = done-joinable a b e in (j, done-together a b j e),
+  λ p. refused-exactly a b (p .0) .1 (p .1),
+)
+
 -- what an accepted join leaves
 pub done-joins : (a b : Kept) → joinRecords a b .answer ≡ Done → joinRecords a b ≡ joins (joinedKept a b)
 done-joins a b e = let j = done-joinable a b e in together-joins a b j (done-together a b j e)
@@ -127,6 +134,17 @@ pub names-lowest : (a b : Kept) (n : ℕ) → joinRecords a b .answer ≡ Contra
 names-lowest a b n e =
     let j = contradicted-joinable a b n e in
     names a b n j (rw (joinable-judged a b j) at e)
+
+-- a number below capacity names a packet, and 65,536 the closing: a capacity is at most 65,535
+pub names-packet : (a b : Kept) (n : ℕ) → joinRecords a b .answer ≡ Contradicted n → n < length (a .marks) → NamesPacket (heldBy a) (heldBy b) n
+names-packet a b n e lt =
+    let m = sound-lists a (contradicted-joinable a b n e .left) in
+    ⊎-elim (λ p. p) (λ p. let no : ⊥ = omega (arith, p .named, lt, m .room) in absurd no) (names-lowest a b n e)
+
+pub names-closing : (a b : Kept) → joinRecords a b .answer ≡ Contradicted 65536 → NamesClosing (heldBy a) (heldBy b) 65536
+names-closing a b e =
+    let m = sound-lists a (contradicted-joinable a b 65536 e .left) in
+    ⊎-elim (λ p. let no : ⊥ = omega (arith, p .below, m .room) in absurd no) (λ p. p) (names-lowest a b 65536 e)
 
 -- records that can be joined and that no sending explains together are refused with 11
 pub apart-contradicts : (a b : Kept) → Joinable a b → (Together (heldBy a) (heldBy b) → ⊥) → (n : ℕ) × (joinRecords a b .answer ≡ Contradicted n)
