@@ -1,3 +1,4 @@
+pub mod JoinsKept
 pub mod RecordsKept
 pub mod ReportsTold
 pub mod StoredInFront

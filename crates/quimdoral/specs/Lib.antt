@@ -1,3 +1,4 @@
 pub mod Exports
+pub mod Joins
 pub mod Records
 pub mod Reports
