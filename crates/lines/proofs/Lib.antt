@@ -1,0 +1,5 @@
+pub mod Counting
+pub mod Decimal
+pub mod Examples
+pub mod Putting
+pub mod Writing
