@@ -1,0 +1,4 @@
+pub mod Cases
+pub mod Enough
+pub mod Example
+pub mod LittleEndian
