@@ -1,5 +1,5 @@
 // The report on a record: sent, heard and missing packets and octets, and the gaps.
-mod counting;
+pub mod counting;
 mod writing;
 
 use counting::count;

@@ -1,0 +1,69 @@
+-- The text of an account (document 01, "The printed account"): octets of ASCII, line by line. Assumes nothing.
+use Prim.Native.Nat.{ℕ}
+use mathlib.Core.Bool.{cond}
+use mathlib.Core.List.{List, [], _∷_, _++_}
+use Rattle.lines.specs.Text.{fieldsOf, line}
+use Rattle.reception.specs.declared.Head.{Head}
+use Rattle.reception.specs.Sendings.{Held}
+use Rattle.reception.specs.Hearing.{Kept, heldBy}
+use Rattle.reception.specs.Reporting.{Gap, gapsOf, sentPackets, sentOctets, reportOf}
+
+-- the words of the lines
+abbrev pub sequenceWord : List ℕ  -- "sequence"
+sequenceWord = 115 ∷ 101 ∷ 113 ∷ 117 ∷ 101 ∷ 110 ∷ 99 ∷ 101 ∷ []
+
+abbrev pub sentWord : List ℕ  -- "sent"
+sentWord = 115 ∷ 101 ∷ 110 ∷ 116 ∷ []
+
+abbrev pub heardWord : List ℕ  -- "heard"
+heardWord = 104 ∷ 101 ∷ 97 ∷ 114 ∷ 100 ∷ []
+
+abbrev pub missingWord : List ℕ  -- "missing"
+missingWord = 109 ∷ 105 ∷ 115 ∷ 115 ∷ 105 ∷ 110 ∷ 103 ∷ []
+
+abbrev pub gapWord : List ℕ  -- "gap"
+gapWord = 103 ∷ 97 ∷ 112 ∷ []
+
+abbrev pub endWord : List ℕ  -- "end"
+endWord = 101 ∷ 110 ∷ 100 ∷ []
+
+abbrev pub refusedWord : List ℕ  -- "refused"
+refusedWord = 114 ∷ 101 ∷ 102 ∷ 117 ∷ 115 ∷ 101 ∷ 100 ∷ []
+
+abbrev pub badWord : List ℕ  -- "bad input"
+badWord = 98 ∷ 97 ∷ 100 ∷ 32 ∷ 105 ∷ 110 ∷ 112 ∷ 117 ∷ 116 ∷ []
+
+-- a space and "closed" or "open"
+abbrev pub closedWord : List ℕ
+closedWord = 32 ∷ 99 ∷ 108 ∷ 111 ∷ 115 ∷ 101 ∷ 100 ∷ []
+
+abbrev pub openWord : List ℕ
+openWord = 32 ∷ 111 ∷ 112 ∷ 101 ∷ 110 ∷ []
+
+-- "Line 1 is bearer, period, stamp and closed or open"
+unfoldable pub sequenceLine : Head → List ℕ
+sequenceLine h = sequenceWord ++ fieldsOf (h .bearer ∷ h .period ∷ h .stamp ∷ []) ++ cond (h .closed) closedWord openWord ++ (10 ∷ [])
+
+-- "a gap is as in the report": first number, count, octets
+unfoldable pub gapLines : List Gap → List ℕ
+gapLines [] = []
+gapLines (g ∷ gs) = line gapWord (g .first ∷ g .count ∷ g .octets ∷ []) ++ gapLines gs
+
+-- "the others are packets, octets"
+abbrev pub figureLines : Held → List ℕ
+figureLines r =
+    line sentWord (reportOf r .sent .0 ∷ reportOf r .«sent_octets» .0 ∷ [])
+    ++ line heardWord (reportOf r .heard .0 ∷ reportOf r .«heard_octets» .0 ∷ [])
+    ++ line missingWord (reportOf r .missing .0 ∷ reportOf r .«missing_octets» .0 ∷ [])
+
+-- the account of a record; "Every account closes with the line "end""
+unfoldable pub accountText : Kept → List ℕ
+accountText k = sequenceLine (k .head) ++ figureLines (heldBy k) ++ gapLines (gapsOf (heldBy k)) ++ line endWord []
+
+-- "a refused one prints "refused", its place among all items from 1, its number"
+abbrev pub refusedLine : ℕ → ℕ → List ℕ
+refusedLine place number = line refusedWord (place ∷ number ∷ [])
+
+-- "prints "bad input" and the item's offset in octets from 0"
+abbrev pub badLine : ℕ → List ℕ
+badLine offset = line badWord (offset ∷ [])

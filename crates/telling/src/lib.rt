@@ -1,0 +1,1 @@
+// The text of an account, put into lent memory line by line.
