@@ -3,14 +3,15 @@ use Prim.Native.Nat.{ℕ, _≤_, _<_}
 use mathlib.Core.Path.{_≡_, refl}
 use mathlib.Core.Bool.{true, false}
 use lib.ListN.{length}
-use borrow.Author.Tests.{le-leb, lt-leb, lt-ltb, le-ltb}
+use borrow.Author.Tests.{ne-eqb, le-leb, lt-leb, lt-ltb, le-ltb}
 use Rattle.units.specs.Refusals.{otherSequence, beyondCapacity, contradiction}
 use Rattle.frame.specs.declared.ClosingPdu.{ClosingPdu}
 use Rattle.frame.specs.declared.DataPdu.{DataPdu}
+use Rattle.reception.specs.declared.Head.{Head}
 use Rattle.reception.specs.declared.Taken.the-variants.{Done}
 use Rattle.reception.specs.declared.Taking.{Taking}
 use Rattle.reception.specs.Adding.{packetContradicts, closingContradicts}
-use Rattle.reception.specs.Hearing.{Kept, heldBy, Outcome, refuses, takes, keeps, otherKey, keepPacket, keepClosing, hearPacket, hearClosing, Takes}
+use Rattle.reception.specs.Hearing.{Kept, heldBy, Outcome, refuses, takes, keeps, takenOf, otherKey, keepPacket, keepClosing, hearPacket, hearClosing, Takes}
 
 -- a refusal
 pub refused-as : (k : Kept) (n : ℕ) {t : Outcome} {r : Taking} → t ≡ refuses k n → r ≡ keeps (k .head) n → Takes t r (k .marks) (k .elapsed) (k .sizes)
@@ -19,6 +20,13 @@ refused-as k n e q = record { says = rw (e, q) refl; leaves = rw (e, q) refl }
 -- something taken
 pub taken-as : (k : Kept) {t : Outcome} {r : Taking} → t ≡ takes k → r ≡ record { answer = Done; head = k .head } → Takes t r (k .marks) (k .elapsed) (k .sizes)
 taken-as k e q = record { says = rw (e, q) refl; leaves = rw (e, q) refl }
+
+-- an answer by its number
+pub answer-zero : (h : Head) (n : ℕ) → n ≡ 0 → _≡_ {A = Taking} (record { answer = Done; head = h }) (record { answer = takenOf n; head = h })
+answer-zero h n e = rw e refl
+
+pub answer-number : (h : Head) (n : ℕ) → (n ≡ 0 → ⊥) → keeps h n ≡ record { answer = takenOf n; head = h }
+answer-number h n ne = rw (ne-eqb n 0 ne) refl
 
 -- the tests of a data PDU in their order
 module _ (k : Kept) (bearer period : ℕ) (d : DataPdu) where

@@ -8,18 +8,19 @@ use native.Mathlib.Omega.{arith}
 use lib.Dec.{ltb, leb}
 use lib.ListN.{length, set, length-set}
 use lib.Seq.{getD-set-other}
-use borrow.Author.Tests.{ltb-true, ltb-false, leb-true, leb-false}
+use borrow.Author.Tests.{ne-eqb, ltb-true, ltb-false, leb-true, leb-false}
 use Rattle.fields.specs.Choice.{_when_otherwise_}
 use Rattle.fields.proofs.Tests.{either}
 use Rattle.units.specs.declared.Refusal.{Refusal}
 use Rattle.units.specs.Refusals.{refusing}
 use Rattle.frame.specs.declared.DataPdu.{DataPdu}
 use Rattle.frame.specs.Paper.{CountPaper}
+use Rattle.reception.specs.declared.Head.{Head}
 use Rattle.reception.specs.declared.Taken.{Taken}
 use Rattle.reception.specs.declared.Taken.the-variants.{Done, Refused}
 use Rattle.reception.specs.declared.Taking.{Taking}
 use Rattle.reception.specs.Adding.{packetContradicts}
-use Rattle.reception.specs.Hearing.{Kept, heldBy, Outcome, refuses, takes, otherKey, keepPacket, hearPacket, takenPaper, Takes}
+use Rattle.reception.specs.Hearing.{Kept, heldBy, Outcome, refuses, takes, otherKey, keepPacket, hearPacket, takenOf, takenPaper, Takes}
 use Rattle.reception.specs.Neighbours.{NoneBefore, NoneFrom}
 use Rattle.hearing.proofs.Answered.{packet-other, packet-beyond, packet-off, packet-taken}
 use Rattle.hearing.specs.declared.contradicting.Span.{Span}
@@ -113,14 +114,14 @@ follows-packet k bearer period d t marks elapsed sizes s p o f =
     let q = span-right k d _ t marks elapsed sizes s (packet-done k bearer period d) p o f in
     record { taken = p; before = q .0; from-end = q .1 }
 
--- the answer about a packet and the span, by the answer
-pub follow-done : (t : Taking) (s : Span) (k a b : ℕ) → t .answer ≡ Done → a ≡ withPlace s k .first → b ≡ withPlace s k .end
-    → record { answer = Done; head = t .head; span = record { first = a; end = b } } ≡ followed t s k
-follow-done t s k a b e p q = rw (p, q) (ap (λ (x : Taken). followed (record { answer = x; head = t .head }) s k) (sym e))
+-- the answer about a packet and the span, by its number
+pub follow-done : (h : Head) (s : Span) (k n a b : ℕ) → n ≡ 0 → a ≡ withPlace s k .first → b ≡ withPlace s k .end
+    → record { answer = Done; head = h; span = record { first = a; end = b } } ≡ followed (record { answer = takenOf n; head = h }) s k
+follow-done h s k n a b e p q = rw (e, p, q) refl
 
-pub follow-refused : (t : Taking) (s : Span) (k : ℕ) (x : Refusal) → t .answer ≡ Refused x
-    → record { answer = Refused x; head = t .head; span = s } ≡ followed t s k
-follow-refused t s k x e = ap (λ (y : Taken). followed (record { answer = y; head = t .head }) s k) (sym e)
+pub follow-refused : (h : Head) (s : Span) (k n : ℕ) → (n ≡ 0 → ⊥)
+    → record { answer = Refused (refusing n); head = h; span = s } ≡ followed (record { answer = takenOf n; head = h }) s k
+follow-refused h s k n ne = rw (ne-eqb n 0 ne) refl
 
 -- where the lists stay as they are, so does the span
 pub follows-still : (u : Outcome) (t : Taking) (marks elapsed sizes : List ℕ) (s : Span) → Takes u t marks elapsed sizes → NoneBefore marks (s .first)

@@ -8,7 +8,7 @@ ghost use lib.ListN.{length};
 ghost use Rattle.fields.specs.Choice.{_when_otherwise_};
 ghost use Rattle.reception.specs.Damage.{Matched};
 ghost use Rattle.reception.specs.Neighbours.{NoneBefore, NoneFrom};
-ghost use Rattle.reception.specs.Hearing.{keptIn, damagedKept, hearPacket, hearClosing, hearFrame};
+ghost use Rattle.reception.specs.Hearing.{keptIn, takenOf, damagedKept, hearPacket, hearClosing, hearFrame};
 ghost use Rattle.hearing.specs.Following.{withPlace, followed, Follows};
 use crate::contradicting::Span;
 use crate::taking::take_closing;
@@ -18,7 +18,7 @@ use frame::DataPdu;
 use frame::Read;
 use reception::Head;
 use reception::Taken;
-use reception::Taking;
+use units::Refusal;
 
 // An answer, the head of the record after it, and the places in which packets were heard.
 pub struct Following {
@@ -58,27 +58,25 @@ fn higher(k: usize, end: usize) -> usize
     end
 }
 
-// An answer about packet k, and the span after it.
-fn follow(t: Taking, span: Span, k: usize) -> Following
+// The answer about packet k by its number, 0 or a refusal's, and the span after it.
+fn follow(h: Head, number: u8, span: Span, k: usize) -> Following
     requires { ⌜ k < 65536 ⌝ }
-    ensures { λ r. ⌜ r ≡ followed t span k ⌝ }
+    ensures { λ r. ⌜ r ≡ followed (record { answer = takenOf number; head = h }) span k ⌝ }
 {
-    let head = t.head;
-    let answer = t.answer;
-    match answer {
-        Taken::Done => Following {
+    if number == 0 {
+        return Following {
             answer: Taken::Done,
-            head: head,
+            head: h,
             span: Span {
                 first: lower(k, span.first),
                 end: higher(k, span.end),
             },
-        },
-        Taken::Refused(r) => Following {
-            answer: Taken::Refused(r),
-            head: head,
-            span: span,
-        },
+        };
+    }
+    Following {
+        answer: Taken::Refused(Refusal { number: number }),
+        head: h,
+        span: span,
     }
 }
 
@@ -103,8 +101,20 @@ fn next_packet(
         r (now (marks .exit)) (now (elapsed .exit)) (now (sizes .exit)) ⌝ }
 {
     let k = d.number.0 as usize;
-    let t = take_packet(h, span, marks, elapsed, sizes, bearer, period, d);
-    follow(t, span, k)
+    let number = take_packet(
+        h,
+        span,
+        marks,
+        elapsed,
+        sizes,
+        bearer,
+        period,
+        d.stamp,
+        k,
+        d.elapsed.0,
+        d.length.0,
+    );
+    follow(h, number, span, k)
 }
 
 // A closing PDU.

@@ -12,6 +12,7 @@ use frame::Read;
 use reception::Head;
 use reception::Taken;
 use reception::Taking;
+use taking::answered;
 use taking::clear;
 use taking::open_head;
 use taking::refused;
@@ -83,7 +84,21 @@ fn hear_data(
         return refused(h, RECORD_DAMAGED);
     }
     let span = whole(marks.len());
-    take_packet(h, span, marks, elapsed, sizes, bearer, period, d)
+    let k = d.number.0 as usize;
+    let number = take_packet(
+        h,
+        span,
+        marks,
+        elapsed,
+        sizes,
+        bearer,
+        period,
+        d.stamp,
+        k,
+        d.elapsed.0,
+        d.length.0,
+    );
+    answered(h, number)
 }
 
 // A closing PDU, for any record of matching lists.

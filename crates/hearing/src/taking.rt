@@ -8,14 +8,13 @@ ghost use Rattle.reception.specs.Sendings.{heldIn};
 ghost use Rattle.reception.specs.Walk.{isExplained};
 ghost use Rattle.reception.specs.Damage.{Matched};
 ghost use Rattle.reception.specs.Neighbours.{NoneBefore, NoneFrom};
-ghost use Rattle.reception.specs.Hearing.{keptIn, keeps, openHead, hearPacket, hearClosing, Takes};
+ghost use Rattle.reception.specs.Hearing.{keptIn, keeps, takenOf, dataPdu, openHead, hearPacket, hearClosing, Takes};
 use crate::contradicting::Span;
 use crate::contradicting::closing_contradicts;
 use crate::contradicting::packet_contradicts;
 use crate::contradicting::with_closing;
 use damage::other_key;
 use frame::ClosingPdu;
-use frame::DataPdu;
 use reception::Head;
 use reception::Taken;
 use reception::Taking;
@@ -66,7 +65,21 @@ pub fn clear(marks: &mut [u8], elapsed: &mut [u32], sizes: &mut [u16])
     }
 }
 
-// A data PDU, for a record that some sending explains.
+// An answer by its number, 0 or a refusal's, and the head as it was.
+pub fn answered(h: Head, number: u8) -> Taking
+    ensures { λ r. ⌜ r ≡ record { answer = takenOf number; head = h } ⌝ }
+{
+    if number == 0 {
+        return Taking {
+            answer: Taken::Done,
+            head: h,
+        };
+    }
+    refused(h, number)
+}
+
+// A data PDU by its fields, for a record that some sending explains. Answers 0, or the refusal's number: numbers are handed over in
+// registers, where structs would go through memory.
 pub fn take_packet(
     h: Head,
     span: Span,
@@ -75,36 +88,33 @@ pub fn take_packet(
     sizes: &mut [u16],
     bearer: u32,
     period: u32,
-    d: DataPdu,
-) -> Taking
+    stamp: u32,
+    k: usize,
+    e: u64,
+    l: u64,
+) -> u8
     requires { ⌜ Matched (now marks) (now elapsed) (now sizes) ⌝ }
     requires { ⌜ NoneBefore (now marks) (span .first) ⌝ }
     requires { ⌜ NoneFrom (now marks) (span .end) ⌝ }
     requires { ⌜ isExplained (heldIn h (now marks) (now elapsed) (now sizes)) ≡ true ⌝ }
-    requires { ⌜ (d .elapsed .0 < 4294967296) × (d .length .0 < 65536) ⌝ }
+    requires { ⌜ (e < 4294967296) × (l < 65536) ⌝ }
     ensures { λ r. ⌜ Takes
-        (hearPacket (keptIn h (now (marks .entry)) (now (elapsed .entry)) (now (sizes .entry))) bearer period d)
-        r (now (marks .exit)) (now (elapsed .exit)) (now (sizes .exit)) ⌝ }
+        (hearPacket (keptIn h (now (marks .entry)) (now (elapsed .entry)) (now (sizes .entry))) bearer period (dataPdu stamp k e l))
+        (record { answer = takenOf r; head = h }) (now (marks .exit)) (now (elapsed .exit)) (now (sizes .exit)) ⌝ }
 {
-    if other_key(h, bearer, period, d.stamp) {
-        return refused(h, OTHER_SEQUENCE);
+    if other_key(h, bearer, period, stamp) {
+        return OTHER_SEQUENCE;
     }
-    let k = d.number.0 as usize;
     if marks.len() <= k {
-        return refused(h, BEYOND_CAPACITY);
+        return BEYOND_CAPACITY;
     }
-    let e = d.elapsed.0;
-    let l = d.length.0;
     if packet_contradicts(h, span, marks, elapsed, sizes, k, e, l) {
-        return refused(h, CONTRADICTION);
+        return CONTRADICTION;
     }
     marks[k] = 1;
     elapsed[k] = e as u32;
     sizes[k] = l as u16;
-    Taking {
-        answer: Taken::Done,
-        head: h,
-    }
+    0
 }
 
 // A closing PDU, for a record that some sending explains.

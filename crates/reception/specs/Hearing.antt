@@ -83,6 +83,10 @@ freshRecord bearer period stamp marks elapsed sizes =
     refuses (unused marks elapsed sizes) stampTooHigh when ltb lastStamp stamp otherwise
     takes (emptyKept bearer period stamp (length marks))
 
+-- a data PDU of these fields
+abbrev pub dataPdu : ℕ → ℕ → ℕ → ℕ → DataPdu
+dataPdu stamp n e l = record { stamp = stamp; number = record { 0 = n }; elapsed = record { 0 = e }; length = record { 0 = l } }
+
 -- the record with packet n of l octets, before which were e
 abbrev pub keepPacket : Kept → ℕ → ℕ → ℕ → Kept
 keepPacket k n e l =
@@ -124,6 +128,10 @@ hearFrame k bearer period frame =
 -- a refusal, and the head as it was
 abbrev pub keeps : Head → ℕ → Taking
 keeps h n = record { answer = Refused (refusing n); head = h }
+
+-- what a number answers: 0, or a refusal
+abbrev pub takenOf : ℕ → Taken
+takenOf n = Done when eqb n 0 otherwise Refused (refusing n)
 
 -- document 01's number for what was taken, and whether it was accepted
 unfoldable pub takenPaper : Taken → CountPaper

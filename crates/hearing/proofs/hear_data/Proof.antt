@@ -29,12 +29,18 @@ returns c =
 whole-requires : tie.Need-whole-requires
 whole-requires c κs = search needs
 
+cast-k : tie.Need-cast-k
+cast-k c = search needs
+
 take-packet-requires : tie.Need-take-packet-requires
 take-packet-requires c κs =
-    let w = c .before .before .before in
+    let w = c .before .before .before .before in
     let e = w .before in
     let p = e .before .before .before .before .before .before .before .before .pre in
     (p .0, (rw (w .whole .ensures) (all-before _), (rw (w .whole .ensures) (all-from _), (explained _ _ (sym (e .before .is-damaged .ensures) ∙ e .if1 .left), p .1))))
+
+answered-requires : tie.Need-answered-requires
+answered-requires c κs = search needs
 
 same-length-4 : tie.Need-same-length-4
 same-length-4 c = search needs
@@ -47,9 +53,9 @@ same-length-6 c = search needs
 
 returns-2 : tie.Need-returns-2
 returns-2 c =
-    let t = c .before .before .before .before .before .before in
-    let e = t .before .before .before .before .before in
-    same-outcome (packet-judged _ _ _ _ (sym (e .before .is-damaged .ensures) ∙ e .if1 .left)) (t .take-packet .ensures)
+    let t = c .before .before .before .before .before .before .before in
+    let e = t .before .before .before .before .before .before in
+    rw (c .answered .ensures) (same-outcome (packet-judged _ _ _ _ (sym (e .before .is-damaged .ensures) ∙ e .if1 .left)) (t .take-packet .ensures))
 
 pub hear-data-spec : {M : Type 1} → statement M
 hear-data-spec =
@@ -62,7 +68,9 @@ hear-data-spec =
     same-length-3
     returns
     whole-requires
+    cast-k
     take-packet-requires
+    answered-requires
     same-length-4
     same-length-5
     same-length-6

@@ -9,33 +9,19 @@ use Rattle.hearing.proofs.taking.take_packet.Tie as tie
 other-key-requires : tie.Need-other-key-requires
 other-key-requires c κs = search needs
 
-refused-requires : tie.Need-refused-requires
-refused-requires c κs = search needs
-
 returns : tie.Need-returns
-returns c =
-    let o = c .before .before in
-    refused-as _ _ (packet-other _ _ _ _ (sym (o .other-key .ensures) ∙ c .before .if1 .taken)) (c .refused .ensures)
-
-cast-k : tie.Need-cast-k
-cast-k c = search needs
-
-refused-requires-2 : tie.Need-refused-requires-2
-refused-requires-2 c κs = search needs
+returns c = refused-as _ _ (packet-other _ _ _ _ (sym (c .before .other-key .ensures) ∙ c .if1 .taken)) refl
 
 returns-2 : tie.Need-returns-2
 returns-2 c =
-    let e = c .before .before .before in
-    refused-as _ _ (packet-beyond _ _ _ _ (sym (e .before .other-key .ensures) ∙ e .if1 .left) (c .before .if2 .taken)) (c .refused2 .ensures)
+    let e = c .before in
+    refused-as _ _ (packet-beyond _ _ _ _ (sym (e .before .other-key .ensures) ∙ e .if1 .left) (c .if2 .taken)) refl
 
 packet-contradicts-requires : tie.Need-packet-contradicts-requires
 packet-contradicts-requires c κs =
-    let e = c .before .before .before in
-    let p = e .before .before .before .before .before .before .before .pre in
-    (p .0, (p .1 .0, (p .1 .1 .0, (p .1 .1 .1 .0, (omega (arith, e .if2 .left), p .1 .1 .1 .1 .0, omega (arith, p .1 .1 .1 .1 .1))))))
-
-refused-requires-3 : tie.Need-refused-requires-3
-refused-requires-3 c κs = search needs
+    let h = c .before .before .before in
+    let p = h .before .before .before .before .before .before .pre in
+    (p .0, (p .1 .0, (p .1 .1 .0, (p .1 .1 .1 .0, (h .if2 .left, p .1 .1 .1 .1 .0, omega (arith, p .1 .1 .1 .1 .1))))))
 
 same-length : tie.Need-same-length
 same-length c = search needs
@@ -48,12 +34,12 @@ same-length-3 c = search needs
 
 returns-3 : tie.Need-returns-3
 returns-3 c =
-    let w = c .before .before in
+    let w = c .before in
     let h = w .before .before .before .before in
-    let e = h .before .before in
+    let e = h .before in
     refused-as _ _
-    (packet-off _ _ _ _ (sym (e .before .other-key .ensures) ∙ e .if1 .left) (h .if2 .left) (sym (w .packet-contradicts .ensures) ∙ c .before .if3 .taken))
-    (c .refused3 .ensures)
+    (packet-off _ _ _ _ (sym (e .before .other-key .ensures) ∙ e .if1 .left) (h .if2 .left) (sym (w .packet-contradicts .ensures) ∙ c .if3 .taken))
+    refl
 
 slice-write-marks : tie.Need-slice-write-marks
 slice-write-marks c = search needs
@@ -89,7 +75,7 @@ returns-4 : tie.Need-returns-4
 returns-4 c =
     let w = c .before in
     let h = w .before .before .before .before in
-    let e = h .before .before in
+    let e = h .before in
     taken-as _
     (packet-taken _ _ _ _ (sym (e .before .other-key .ensures) ∙ e .if1 .left) (h .if2 .left) (sym (w .packet-contradicts .ensures) ∙ c .if3 .left))
     refl
@@ -99,13 +85,9 @@ take-packet-spec =
     tie.close
     (tie.spec
     other-key-requires
-    refused-requires
     returns
-    cast-k
-    refused-requires-2
     returns-2
     packet-contradicts-requires
-    refused-requires-3
     same-length
     same-length-2
     same-length-3
