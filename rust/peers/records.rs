@@ -4,7 +4,7 @@
 use crate::frames::Reader;
 use quimdoral::{Closing, Data, Frame};
 
-const LONGEST: u64 = 4_095;
+pub const LONGEST: u64 = 4_095;
 const MOST: usize = 65_535;
 
 fn stamp_of(said: &Frame) -> u32 {
@@ -63,14 +63,14 @@ impl Written {
         Ok(())
     }
 
-    fn lists_fit(&self) -> Result<(), u8> {
+    pub fn lists_fit(&self) -> Result<(), u8> {
         let capacity = self.marks.len();
         let alike = self.elapsed.len() == capacity && self.sizes.len() == capacity;
         if self.head.len() >= 6 && alike && capacity <= MOST { Ok(()) } else { Err(14) }
     }
 
     /// Adds what a frame says: 10 where it has no place, 11 where something else stands in its place.
-    fn write_down(&mut self, said: Frame) -> Result<(), u8> {
+    pub fn write_down(&mut self, said: Frame) -> Result<(), u8> {
         match said {
             Frame::Data(data) => self.write_data(data),
             Frame::Closing(closing) | Frame::ClosingWithLengths(closing) => self.write_closing(closing),
@@ -103,7 +103,7 @@ impl Written {
         Ok(())
     }
 
-    fn closed(&self) -> bool {
+    pub fn closed(&self) -> bool {
         self.head[3] == 1
     }
 
@@ -121,7 +121,7 @@ impl Written {
     }
 
     /// Whether a sending explains the record. A yes has a sending to show for it.
-    fn explained(&self) -> bool {
+    pub fn explained(&self) -> bool {
         let Some(bounds) = self.bounds() else { return false };
         assert!(self.explained_by(&sending_within(&bounds)), "the sending within {bounds:?} does not explain {self:?}");
         true
@@ -136,7 +136,7 @@ impl Written {
     }
 
     /// The least and the most octets before each place and after the last one, or nothing where a place is left without any.
-    fn bounds(&self) -> Option<Vec<(u64, u64)>> {
+    pub fn bounds(&self) -> Option<Vec<(u64, u64)>> {
         let places = self.places();
         if self.marks[places..].contains(&1) {
             return None;
@@ -184,7 +184,7 @@ impl Written {
 }
 
 /// A sending with the octets before each place within its bounds, worked out from the end.
-fn sending_within(bounds: &[(u64, u64)]) -> Vec<u64> {
+pub fn sending_within(bounds: &[(u64, u64)]) -> Vec<u64> {
     let Some((&(mut after, _), places)) = bounds.split_last() else { return Vec::new() };
     let mut lengths = Vec::with_capacity(places.len());
     for &(least, _) in places.iter().rev() {
@@ -209,7 +209,7 @@ pub struct PlainRecord {
 }
 
 /// Whether so many packets can carry the octets from one count to another.
-fn carry(packets: usize, from: u64, to: u64) -> bool {
+pub fn carry(packets: usize, from: u64, to: u64) -> bool {
     from <= to && to - from <= LONGEST * packets as u64
 }
 

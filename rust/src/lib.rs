@@ -1,9 +1,13 @@
 //! Safe calls of the proved library. The functions take every input, so each wrapper only passes slices on.
 
+mod joining;
 mod records;
+mod reports;
 
+pub use joining::{join, JoinRefusal};
 pub use records::hear_all;
-pub use records::{fresh, hear, Closed, Key, Lists, Record};
+pub use records::{fresh, hear, Closed, Held, Key, Lists, Record};
+pub use reports::{report, report_into, Amount, Gap, Lent, Octets, Packets, Report};
 use std::mem::MaybeUninit;
 
 extern "C" {

@@ -54,6 +54,15 @@ pub struct Lists<'a> {
     pub sizes: &'a mut [u16],
 }
 
+/// A record in borrowed memory that is only read.
+#[derive(Clone, Copy)]
+pub struct Held<'a> {
+    pub head: &'a [u64],
+    pub marks: &'a [u8],
+    pub elapsed: &'a [u32],
+    pub sizes: &'a [u16],
+}
+
 fn answer(number: u8) -> Result<(), u8> {
     if number == 0 { Ok(()) } else { Err(number) }
 }
@@ -174,8 +183,12 @@ impl Record {
         hear(self.lists(), bearer, period, frame)
     }
 
-    fn lists(&mut self) -> Lists<'_> {
+    pub(crate) fn lists(&mut self) -> Lists<'_> {
         Lists { head: &mut self.head, marks: &mut self.marks, elapsed: &mut self.elapsed, sizes: &mut self.sizes }
+    }
+
+    pub(crate) fn held(&self) -> Held<'_> {
+        Held { head: &self.head, marks: &self.marks, elapsed: &self.elapsed, sizes: &self.sizes }
     }
 
     pub fn capacity(&self) -> usize {
