@@ -20,11 +20,12 @@ use reception::Head;
 use reception::Taken;
 use units::Refusal;
 
-// An answer, the head of the record after it, and the places in which packets were heard.
+// The head of the record after a frame, the places in which packets were heard, and the answer. The answer stands last: so the head
+// is copied as it was stored, and no copy has to wait for several stores.
 pub struct Following {
-    pub answer: Taken,
     pub head: Head,
     pub span: Span,
+    pub answer: Taken,
 }
 
 // The span of an empty record.
