@@ -5,7 +5,8 @@ use mathlib.Core.Logic.{⊎-elim}
 use Rattle.reception.specs.Sendings.{heldIn}
 use Rattle.reception.proofs.ReportAccounts.{undamaged-sent}
 use Rattle.reporting.proofs.CountedReport.{sound}
-use Rattle.reporting.proofs.GapsWritten.{Writing, writing-start, back, up, room-here, heard-on, unheard-on, last-back, last-up, last-room, all-written}
+use Rattle.reporting.proofs.GapsLeft.{back, up, last-back, last-up}
+use Rattle.reporting.proofs.GapsWritten.{Writing, writing-start, room-here, heard-on, unheard-on, last-room, all-written}
 use borrow.Author.Needs.{needs}
 use Rattle.reporting.proofs.writing.write_gaps.Statement.{statement}
 use Rattle.reporting.proofs.writing.write_gaps.Tie as tie
@@ -54,7 +55,7 @@ put-requires c κs =
     let t = e .before .before in
     let i = t .before .before in
     let g = i .before .loop .inv in (
-      (back _ _ _ _ _ _ _ _ _ _ _ _ g, up _ _ _ _ _ _ _ _ _ _ _ _ g (i .loop-test .taken) (t .if1 .taken) _ _ (e .from-u32 .ensures .0) (l .from-u16 .ensures .0)),
+      (back _ _ _ _ _ (g .going), up _ _ _ _ _ (g .going) (i .loop-test .taken) (t .if1 .taken) _ _ (e .from-u32 .ensures .0) (l .from-u16 .ensures .0)),
       room-here _ _ _ _ _ _ _ _ _ _ _ _ g (i .loop-test .taken) (t .if1 .taken) _ _ (e .from-u32 .ensures .0) (l .from-u16 .ensures .0),
     )
 
@@ -95,7 +96,7 @@ put-requires-2 c κs =
     let g = o .before .before .loop .inv in
     let q = o .sent-octets .ensures in
     let le = o .before .loop-test .left in
-    ((last-back _ _ _ _ _ _ _ _ _ _ _ _ g le _ q, last-up _ _ _ _ _ _ _ _ _ _ _ _ g le _ q), last-room _ _ _ _ _ _ _ _ _ _ _ _ g le _ q)
+    ((last-back _ _ _ _ _ (g .going) le _ q, last-up _ _ _ _ _ (g .going) le _ q), last-room _ _ _ _ _ _ _ _ _ _ _ _ g le _ q)
 
 same-length : tie.Need-same-length Inv-loop μ-loop
 same-length c =
