@@ -6,7 +6,7 @@ use Rattle.lines.specs.Text.{fieldsOf, line}
 use Rattle.reception.specs.declared.Head.{Head}
 use Rattle.reception.specs.Sendings.{Held}
 use Rattle.reception.specs.Hearing.{Kept, heldBy}
-use Rattle.reception.specs.Reporting.{Gap, gapsOf, sentPackets, sentOctets, reportOf}
+use Rattle.reception.specs.Reporting.{Gap, gapsOf, reportOf}
 
 -- the words of the lines
 abbrev pub sequenceWord : List ℕ  -- "sequence"

@@ -1,1 +1,66 @@
 // The text of an account, put into lent memory line by line.
+mod figures;
+mod gaps;
+mod parts;
+
+use figures::put_close;
+use figures::put_figures;
+use figures::put_sequence;
+use gaps::put_gaps;
+use lines::put_end;
+use lines::put_number;
+use lines::put_text;
+use parts::put_pair;
+use reception::Head;
+use reporting::counting::count;
+ghost use mathlib.Core.Path.{_≡_};
+ghost use mathlib.Core.Bool.{false};
+ghost use Prim.Native.Nat.{_+_, _*_, _≤_};
+ghost use lib.ListN.{length};
+ghost use Rattle.lines.specs.Text.{Puts};
+ghost use Rattle.reception.specs.Damage.{Matched};
+ghost use Rattle.reception.specs.Hearing.{keptIn, damagedKept};
+ghost use Rattle.telling.specs.Account.{accountText, refusedLine, badLine};
+
+// The account of an undamaged record: its sequence, its figures, its gaps, and the end.
+pub fn put_account(
+    h: Head,
+    marks: &[u8],
+    elapsed: &[u32],
+    sizes: &[u16],
+    out: &mut [u8],
+    at: usize,
+) -> usize
+    requires { ⌜ Matched (now marks) (now elapsed) (now sizes) ⌝ }
+    requires { ⌜ damagedKept (keptIn h (now marks) (now elapsed) (now sizes)) ≡ false ⌝ }
+    requires { ⌜ at + 512 + 67 * (length (now marks) + 1) ≤ length (now out) ⌝ }
+    ensures { λ r. ⌜ Puts (accountText (keptIn h (now (marks .entry)) (now (elapsed .entry)) (now (sizes .entry)))) (now (out .entry)) at r (now (out .exit)) ⌝ }
+    ensures { λ r. ⌜ r ≤ at + 512 + 67 * (length (now (marks .entry)) + 1) ⌝ }
+{
+    let r = count(h, marks, elapsed, sizes);
+    let n = r.sent.0 as usize;
+    let x = put_sequence(h, out, at);
+    let y = put_figures(r, out, x);
+    let z = put_gaps(h, n, marks, elapsed, sizes, out, y);
+    put_close(out, z)
+}
+
+// The line of a refused frame: its place among all items, from 1, and the refusal's number.
+pub fn put_refused(out: &mut [u8], at: usize, place: u64, number: u8) -> usize
+    requires { ⌜ at + 64 ≤ length (now out) ⌝ }
+    ensures { λ r. ⌜ Puts (refusedLine place number) (now (out .entry)) at r (now (out .exit)) ⌝ }
+    ensures { λ r. ⌜ r ≤ at + 64 ⌝ }
+{
+    put_pair(out, at, b"refused", place, number as u64)
+}
+
+// The line of an item that is none, which begins at this offset.
+pub fn put_bad(out: &mut [u8], at: usize, offset: u64) -> usize
+    requires { ⌜ at + 64 ≤ length (now out) ⌝ }
+    ensures { λ r. ⌜ Puts (badLine offset) (now (out .entry)) at r (now (out .exit)) ⌝ }
+    ensures { λ r. ⌜ r ≤ at + 64 ⌝ }
+{
+    let x = put_text(out, at, b"bad input");
+    let y = put_number(out, x, offset);
+    put_end(out, y)
+}
