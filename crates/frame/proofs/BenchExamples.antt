@@ -52,7 +52,7 @@ C-written : closingFrame (after 1) ≡ C
 unfolding octets divide lowDigits bitsOf check closingFrame
 C-written = refl
 
-C-read : readFrame C ≡ Closing (after 1)
+pub C-read : readFrame C ≡ Closing (after 1)
 unfolding be divide lowDigits bitsOf check readFrame readHeaded readBody closingWrong
 C-read = refl
 

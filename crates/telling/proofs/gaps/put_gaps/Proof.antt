@@ -2,6 +2,7 @@
 use Prim.Native.Nat.{_-_}
 use mathlib.Core.Path.{_∙_}
 use mathlib.Core.Logic.{⊎-elim}
+use native.Mathlib.Omega.{arith}
 use Rattle.reception.specs.Sendings.{heldIn}
 use Rattle.reception.proofs.ReportAccounts.{undamaged-sent}
 use Rattle.reporting.proofs.CountedReport.{sound}
@@ -56,7 +57,7 @@ put-gap-requires c κs =
     let i = t .before .before in
     let g = i .before .loop .inv in (
       (back _ _ _ _ _ (g .going), up _ _ _ _ _ (g .going) (i .loop-test .taken) (t .if1 .taken) _ _ (e .from-u32 .ensures .0) (l .from-u16 .ensures .0)),
-      line-fits _ _ _ _ _ _ _ _ _ g,
+      omega (arith, line-fits _ _ _ _ _ _ _ _ _ g, g .room, g .long),
     )
 
 cast-i : tie.Need-cast-i Inv-loop μ-loop
@@ -96,7 +97,7 @@ put-gap-requires-2 c κs =
     let g = o .before .before .loop .inv in
     let q = o .sent-octets .ensures in
     let le = o .before .loop-test .left in
-    ((last-back _ _ _ _ _ (g .going) le _ q, last-up _ _ _ _ _ (g .going) le _ q), line-fits _ _ _ _ _ _ _ _ _ g)
+    ((last-back _ _ _ _ _ (g .going) le _ q, omega (arith, last-up _ _ _ _ _ (g .going) le _ q)), line-fits _ _ _ _ _ _ _ _ _ g)
 
 same-length : tie.Need-same-length Inv-loop μ-loop
 same-length c =
