@@ -207,3 +207,21 @@ pub fn drop_one(noise: &mut Noise, record: &mut Written) {
         _ => drop(record.sizes.pop()),
     }
 }
+
+/// How often each answer came, by the refusal's number.
+#[derive(Default, Debug)]
+pub struct Tally(pub [usize; 15]);
+
+impl Tally {
+    pub fn add(&mut self, answer: Result<(), u8>) {
+        self.0[usize::from(answer.err().unwrap_or(0))] += 1;
+    }
+
+    pub fn calls(&self) -> usize {
+        self.0.iter().sum()
+    }
+
+    pub fn came(&self, numbers: &[usize], times: usize) -> bool {
+        numbers.iter().all(|&number| self.0[number] > times)
+    }
+}

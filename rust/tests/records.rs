@@ -14,21 +14,7 @@ use frames::Reader;
 use peers::Noise;
 use quimdoral::Key;
 use records::{PlainRecord, Written};
-use sequences::{any_capacity, at_a_bound, below, damage, lists, next_to, one_in, Sequence, DAMAGES, LONGEST};
-
-/// How often each answer came.
-#[derive(Default, Debug)]
-struct Tally([usize; 15]);
-
-impl Tally {
-    fn add(&mut self, answer: Result<(), u8>) {
-        self.0[usize::from(answer.err().unwrap_or(0))] += 1;
-    }
-
-    fn calls(&self) -> usize {
-        self.0.iter().sum()
-    }
-}
+use sequences::{any_capacity, at_a_bound, below, damage, lists, next_to, one_in, Sequence, Tally, DAMAGES, LONGEST};
 
 /// Hears with the library and with the peer, and compares the answers and every number of the record afterwards.
 fn hear_alike(record: &mut Written, reader: &Reader, (bearer, period): (u32, u32), frame: &[u8]) -> Result<(), u8> {

@@ -22,22 +22,8 @@ use peers::Noise;
 use quimdoral::{Amount, Gap, Key, Octets, Packets, Record, Report};
 use records::Written;
 use reports::{plain_report, Room};
-use sequences::{any_capacity, at_a_bound, below, damage, held, lists, one_in, put, Sequence, DAMAGES, LONGEST};
+use sequences::{any_capacity, at_a_bound, below, damage, held, lists, one_in, put, Sequence, Tally, DAMAGES, LONGEST};
 use std::hint::black_box;
-
-/// How often each answer came.
-#[derive(Default, Debug)]
-struct Tally([usize; 15]);
-
-impl Tally {
-    fn add(&mut self, answer: Result<(), u8>) {
-        self.0[usize::from(answer.err().unwrap_or(0))] += 1;
-    }
-
-    fn came(&self, numbers: &[usize], times: usize) -> bool {
-        numbers.iter().all(|&number| self.0[number] > times)
-    }
-}
 
 fn amount(packets: u32, octets: u64) -> Amount {
     Amount { packets: Packets(packets), octets: Octets(octets) }
