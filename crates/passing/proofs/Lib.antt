@@ -1,1 +1,3 @@
+pub mod LastAccount
 pub mod OneMore
+pub mod Telling

@@ -1,22 +1,43 @@
--- One item more: it takes octets unless it stops the program, and no more is passed or printed than there is. Assumes nothing.
+-- One item more: what is told goes on by its text, and it takes octets unless it stops the program. Assumes nothing.
 use Prim.Native.Nat.{ℕ, _+_, _-_, _≤_, _<_}
-use mathlib.Core.Path.{_≡_, refl, sym, ap, _∙_}
-use mathlib.Core.Bool.{Bool, true, false, cond, true≢false}
-use mathlib.Core.List.{List, _++_}
+use mathlib.Core.Path.{_≡_, refl, sym, ap, subst, _∙_}
+use mathlib.Core.Logic.{_⊎_, inl, inr}
+use mathlib.Core.Bool.{Bool, true, false, cond, false≢true}
+use mathlib.Core.List.{List, [], _++_}
 use native.Mathlib.Omega.{arith}
+use borrow.Author.Tests.{ltb-true, ltb-false, leb-true}
+use lib.Dec.{ltb, leb}
 use lib.ListN.{length, take, drop, length-append, length-drop}
-use lib.Seq.{length-take-le}
+use lib.Seq.{length-take-le, drop-drop}
 use Rattle.fields.specs.Choice.{_when_otherwise_}
 use Rattle.fields.specs.Runs.{laid}
+use Rattle.fields.proofs.Choosing.{past}
 use Rattle.lines.specs.Text.{Puts}
-use Rattle.items.specs.declared.Item.{Item}
-use Rattle.items.specs.declared.Item.the-variants.{Begins, Frame, Wrong, Cut}
+use Rattle.lines.proofs.Putting.{puts-none, puts-then}
+use Rattle.items.specs.declared.Item.the-variants.{Cut}
 use Rattle.items.specs.Items.{itemOf, sizeOf}
-use Rattle.items.proofs.Enough.{size-there}
+use Rattle.items.proofs.Enough.{never-cut, size-there}
 use Rattle.printout.specs.declared.Going.{Going}
 use Rattle.printout.specs.declared.Went.{Went}
-use Rattle.printout.specs.Printed.{Between, stepOf, itemStep, usedBy}
+use Rattle.printout.specs.Printed.{Between, mostText, stepOf, usedBy}
 use Rattle.printout.specs.Stepping.{betweenIn, Ready, Steps}
+use Rattle.printout.proofs.WholeText.{takes-some}
+use Rattle.passing.specs.Passing.{goesOn, longestItem, Told, Passed}
+use Rattle.passing.proofs.Telling.{told-nothing, told-then, told-item, told-over}
+
+-- what is known where the next item is passed
+pub goes-on-means : (rest : ℕ) (ended : Bool) (room : ℕ) (stops : Bool) → goesOn rest ended room stops ≡ true
+    → (stops ≡ false) × (mostText ≤ room) × (1 ≤ rest) × ((longestItem ≤ rest) ⊎ (ended ≡ true))
+unfolding goesOn
+goes-on-means rest ended room stops e =
+    let s = past false _ true stops false≢true e in
+    let r = past false _ true (ltb room mostText) false≢true (s .1) in
+    let m = go ended (r .1) in
+    (s .0, ltb-false _ _ (r .0), m .0, m .1)
+  where
+    go : (t : Bool) → (ltb 0 rest when t otherwise leb longestItem rest) ≡ true → (1 ≤ rest) × ((longestItem ≤ rest) ⊎ (t ≡ true))
+    go true h = (ltb-true _ _ h, inr refl)
+    go false h = let l = leb-true longestItem rest h in (omega (arith, l), inl l)
 
 -- text that is put stays within the memory
 pub puts-within : (text old : List ℕ) (at r : ℕ) (new : List ℕ) → Puts text old at r new → at ≤ length old → length new ≡ length old → r ≤ length old
@@ -28,17 +49,7 @@ puts-within text old at r new p le same =
     let e = p .ends in
     omega (arith, l, e, same)
 
--- an item that does not stop the program takes octets, and none takes more than there are
-takes-some : (b : Between) (input : List ℕ) → stepOf b input .stops ≡ false → 1 ≤ sizeOf (itemOf input)
-unfolding itemStep sizeOf
-takes-some b input s = go (itemOf input) s
-  where
-    go : (i : Item) → itemStep b input i .stops ≡ false → 1 ≤ sizeOf i
-    go (Begins k) e = omega arith
-    go (Frame n) e = omega arith
-    go Wrong e = absurd (true≢false e)
-    go Cut e = absurd (true≢false e)
-
+-- none takes more octets than there are, and one that does not stop the program takes some
 used-in : (b : Between) (input : List ℕ) → usedBy b input ≤ length input
 used-in b input = go (stepOf b input .stops)
   where
@@ -46,11 +57,14 @@ used-in b input = go (stepOf b input .stops)
     go true = omega arith
     go false = size-there input
 
-used-some : (b : Between) (input : List ℕ) → stepOf b input .stops ≡ false → 1 ≤ usedBy b input
-used-some b input s = rw s (takes-some b input s)
+used-is : (b : Between) (input : List ℕ) → stepOf b input .stops ≡ false → usedBy b input ≡ sizeOf (itemOf input)
+used-is b input s = rw s refl
 
 -- what is kept in the middle, with so many octets left
-pub record Passing (marks₀ elapsed₀ sizes₀ input out₀ marks elapsed sizes out : List ℕ) (g : Going) (at left : ℕ) : Type 0 where
+pub record Passing (b : Between) (input : List ℕ) (ended : Bool) (marks₀ elapsed₀ sizes₀ out₀ marks elapsed sizes out : List ℕ) (g : Going) (at left : ℕ) (stops : Bool) : Type 0 where
+  pub text : List ℕ
+  pub puts : Puts text out₀ 0 at out
+  pub told : Told b input ended text stops (betweenIn g marks elapsed sizes) (drop (length input - left) input)
   pub ready : Ready g marks elapsed sizes
   pub at-in : at ≤ length out
   pub left-in : left ≤ length input
@@ -59,10 +73,16 @@ pub record Passing (marks₀ elapsed₀ sizes₀ input out₀ marks elapsed size
   pub sizes-same : length sizes ≡ length sizes₀
   pub out-same : length out ≡ length out₀
 
-pub passing-start : (marks elapsed sizes input out : List ℕ) (g : Going) → Ready g marks elapsed sizes
-    → Passing marks elapsed sizes input out marks elapsed sizes out g 0 (length input)
-passing-start marks elapsed sizes input out g y =
+none-passed : (input : List ℕ) → drop (length input - length input) input ≡ input
+none-passed input = let z : length input - length input ≡ 0 = omega arith in rw z refl
+
+pub passing-start : (marks elapsed sizes input out : List ℕ) (ended : Bool) (g : Going) → Ready g marks elapsed sizes
+    → Passing (betweenIn g marks elapsed sizes) input ended marks elapsed sizes out marks elapsed sizes out g 0 (length input) false
+passing-start marks elapsed sizes input out ended g y =
     record {
+      text = [];
+      puts = puts-none out 0;
+      told = rw (none-passed input) (told-nothing (betweenIn g marks elapsed sizes) input ended);
       ready = y;
       at-in = omega arith;
       left-in = omega arith;
@@ -72,39 +92,85 @@ passing-start marks elapsed sizes input out g y =
       out-same = refl;
     }
 
--- the octets that are left
-pub rest-long : (input : List ℕ) (left : ℕ) → left ≤ length input → length (take (length input - (length input - left)) (drop (length input - left) input)) ≡ left
-rest-long input left le =
-    let d = length-drop (length input - left) input in
-    length-take-le (length input - (length input - left)) (drop (length input - left) input) (omega (arith, d)) ∙ omega arith
+-- what is kept where no item more is passed
+pub passing-done : (b : Between) (input : List ℕ) (ended : Bool) (marks₀ elapsed₀ sizes₀ out₀ marks elapsed sizes out : List ℕ) (g : Going) (at left : ℕ) (stops : Bool)
+    → Passing b input ended marks₀ elapsed₀ sizes₀ out₀ marks elapsed sizes out g at left stops → goesOn left ended (length out - at) stops ≡ false
+    → Passed b input ended (record { going = g; at = at; used = length input - left; stops = stops }) marks elapsed sizes out₀ out
+    × (goesOn (length input - (length input - left)) ended (length out - at) stops ≡ false)
+passing-done b input ended marks₀ elapsed₀ sizes₀ out₀ marks elapsed sizes out g at left stops p off =
+    let n : length input - (length input - left) ≡ left = omega (arith, p .left-in) in
+    (record { text = p .text; puts = p .puts; told = p .told; ready = p .ready; used-in = omega arith; at-in = p .at-in }, rw n off)
 
-module _ (marks₀ elapsed₀ sizes₀ input out₀ marks elapsed sizes out : List ℕ) (g : Going) (at left : ℕ)
-    (p : Passing marks₀ elapsed₀ sizes₀ input out₀ marks elapsed sizes out g at left) (w : Went) (marks′ elapsed′ sizes′ out′ rest : List ℕ) (long : length rest ≡ left)
+module _ (b : Between) (input : List ℕ) (ended : Bool) (marks₀ elapsed₀ sizes₀ out₀ marks elapsed sizes out : List ℕ) (g : Going) (at left : ℕ) (stops : Bool)
+    (p : Passing b input ended marks₀ elapsed₀ sizes₀ out₀ marks elapsed sizes out g at left stops) (w : Went) (marks′ elapsed′ sizes′ out′ rest : List ℕ)
+    (is : rest ≡ drop (length input - left) input)
     (t : Steps (stepOf (betweenIn g marks elapsed sizes) rest) (usedBy (betweenIn g marks elapsed sizes) rest) w marks′ elapsed′ sizes′ out at out′) where
+  rest-long : length rest ≡ left
+  rest-long = let d = length-drop (length input - left) input in let i = p .left-in in ap length is ∙ d ∙ omega (arith, i)
+
   pub used-less : w .used ≤ left
-  used-less = let u = t .used in let i = used-in (betweenIn g marks elapsed sizes) rest in omega (arith, u, i, long)
+  used-less = let u = t .used in let i = used-in (betweenIn g marks elapsed sizes) rest in let l = rest-long in omega (arith, u, i, l)
 
-  pub passing-on : length marks′ ≡ length marks → length elapsed′ ≡ length elapsed → length sizes′ ≡ length sizes → length out′ ≡ length out
-      → Passing marks₀ elapsed₀ sizes₀ input out₀ marks′ elapsed′ sizes′ out′ (w .going) (w .at) (left - w .used)
-  passing-on m e s o =
-      let a = puts-within _ out at (w .at) out′ (t .puts) (p .at-in) o in
-      record {
-        ready = t .ready;
-        at-in = omega (arith, a, o);
-        left-in = omega (arith, p .left-in);
-        marks-same = m ∙ p .marks-same;
-        elapsed-same = e ∙ p .elapsed-same;
-        sizes-same = s ∙ p .sizes-same;
-        out-same = o ∙ p .out-same;
-      }
-
-  pub passes-less : (stops : Bool) → stops ≡ false → cond (w .stops) 0 (1 + (left - w .used)) < cond stops 0 (1 + left)
-  passes-less stops s = rw s (go (w .stops) refl)
+  item-told : 1 ≤ left → (longestItem ≤ left) ⊎ (ended ≡ true)
+      → Told (betweenIn g marks elapsed sizes) rest ended (stepOf (betweenIn g marks elapsed sizes) rest .text) (w .stops) (betweenIn (w .going) marks′ elapsed′ sizes′) (drop (sizeOf (itemOf rest)) rest)
+  item-told l o = rw (t .stops, t .next) (told-item (betweenIn g marks elapsed sizes) rest ended (rw rest-long l) (whole o))
     where
-      go : (b : Bool) → w .stops ≡ b → cond (w .stops) 0 (1 + (left - w .used)) < 1 + left
-      go true e = rw e (omega arith)
-      go false e =
-          let n = used-some (betweenIn g marks elapsed sizes) rest (sym (t .stops) ∙ e) in
-          let u = t .used in
-          let l = used-less in
-          rw e (omega (arith, n, u, l))
+      whole : (longestItem ≤ left) ⊎ (ended ≡ true) → (itemOf rest ≡ Cut → ⊥) ⊎ (ended ≡ true)
+      whole (inl h) = inl (never-cut rest (rw rest-long h))
+      whole (inr e) = inr e
+
+  -- behind the item stands what is left then
+  behind : w .stops ≡ false → drop (sizeOf (itemOf rest)) rest ≡ drop (length input - (left - w .used)) input
+  behind s =
+      let u : w .used ≡ sizeOf (itemOf rest) = t .used ∙ used-is (betweenIn g marks elapsed sizes) rest (sym (t .stops) ∙ s) in
+      let l = used-less in
+      let i = p .left-in in
+      let n : length input - left + sizeOf (itemOf rest) ≡ length input - (left - w .used) = omega (arith, u, l, i) in
+      ap (drop (sizeOf (itemOf rest))) is ∙ drop-drop (sizeOf (itemOf rest)) (length input - left) input ∙ ap (λ (k : ℕ). drop k input) n
+
+  left-told : 1 ≤ left → (longestItem ≤ left) ⊎ (ended ≡ true)
+      → Told (betweenIn g marks elapsed sizes) rest ended (stepOf (betweenIn g marks elapsed sizes) rest .text) (w .stops) (betweenIn (w .going) marks′ elapsed′ sizes′) (drop (length input - (left - w .used)) input)
+  left-told l o = go (w .stops) refl (item-told l o)
+    where
+      go : (x : Bool) → w .stops ≡ x
+          → Told (betweenIn g marks elapsed sizes) rest ended (stepOf (betweenIn g marks elapsed sizes) rest .text) x (betweenIn (w .going) marks′ elapsed′ sizes′) (drop (sizeOf (itemOf rest)) rest)
+          → Told (betweenIn g marks elapsed sizes) rest ended (stepOf (betweenIn g marks elapsed sizes) rest .text) x (betweenIn (w .going) marks′ elapsed′ sizes′) (drop (length input - (left - w .used)) input)
+      go true e q = told-over _ _ q
+      go false e q = rw (← behind e) q
+
+  module _ (room : ℕ) (on : goesOn left ended room stops ≡ true) where
+    known : (stops ≡ false) × (mostText ≤ room) × (1 ≤ left) × ((longestItem ≤ left) ⊎ (ended ≡ true))
+    known = goes-on-means left ended room stops on
+
+    told-on : Told b input ended (p .text ++ stepOf (betweenIn g marks elapsed sizes) rest .text) (w .stops) (betweenIn (w .going) marks′ elapsed′ sizes′) (drop (length input - (left - w .used)) input)
+    told-on =
+        let k = known in
+        told-then {c = betweenIn g marks elapsed sizes} {mid = rest} {s = p .text} (rw (is, ← k .0) (p .told)) (left-told (k .2) (k .3))
+
+    pub passing-on : length marks′ ≡ length marks → length elapsed′ ≡ length elapsed → length sizes′ ≡ length sizes → length out′ ≡ length out
+        → Passing b input ended marks₀ elapsed₀ sizes₀ out₀ marks′ elapsed′ sizes′ out′ (w .going) (w .at) (left - w .used) (w .stops)
+    passing-on m e s o =
+        let a = puts-within _ out at (w .at) out′ (t .puts) (p .at-in) o in
+        record {
+          text = p .text ++ stepOf (betweenIn g marks elapsed sizes) rest .text;
+          puts = puts-then (omega arith) (p .puts) (t .puts);
+          told = told-on;
+          ready = t .ready;
+          at-in = omega (arith, a, o);
+          left-in = omega (arith, p .left-in);
+          marks-same = m ∙ p .marks-same;
+          elapsed-same = e ∙ p .elapsed-same;
+          sizes-same = s ∙ p .sizes-same;
+          out-same = o ∙ p .out-same;
+        }
+
+    pub passes-less : cond (w .stops) 0 (1 + (left - w .used)) < cond stops 0 (1 + left)
+    passes-less = rw (known .0) (go (w .stops) refl)
+      where
+        go : (x : Bool) → w .stops ≡ x → cond x 0 (1 + (left - w .used)) < 1 + left
+        go true e = omega arith
+        go false e =
+            let n = takes-some (betweenIn g marks elapsed sizes) rest (sym (t .stops) ∙ e) in
+            let u : w .used ≡ sizeOf (itemOf rest) = t .used ∙ used-is (betweenIn g marks elapsed sizes) rest (sym (t .stops) ∙ e) in
+            let l = used-less in
+            omega (arith, n, u, l)

@@ -19,6 +19,10 @@ use Rattle.telling.specs.Account.{accountText, refusedLine, badLine}
 abbrev pub places : ℕ
 places = 4096
 
+-- octets in which what one item prints has room: the longest text is an account of that many places
+abbrev pub mostText : ℕ
+mostText = 275011
+
 -- items and octets are counted in 64 bits
 abbrev pub counted : ℕ → ℕ
 counted n = n % 2 ^ 64
@@ -30,7 +34,7 @@ pub record Between : Type 0 where
   pub place : ℕ
   pub offset : ℕ
 
--- what one item does: the text that it prints, whether it stops the program, what is there after it, and its octets
+-- what one item does: the text that it prints, whether it stops the program, and what is there after it
 pub record Step : Type 0 where
   pub text : List ℕ
   pub stops : Bool
@@ -79,14 +83,21 @@ stepOf b input = itemStep b input (itemOf input)
 abbrev pub usedBy : Between → List ℕ → ℕ
 usedBy b input = 0 when stepOf b input .stops otherwise sizeOf (itemOf input)
 
--- before the first item
-abbrev pub nothingYet : Kept → Between
-nothingYet k = record { begun = false; kept = k; place = 0; offset = 0 }
+-- before the first item; "Empty input prints nothing"
+abbrev pub nothingYet : Between
+nothingYet = record { begun = false; kept = emptyKept 0 0 0 places; place = 0; offset = 0 }
 
--- all that is printed: the text of each step, until one stops; at the end of the input the last account. An item has at least four
--- octets, so as many steps as octets are enough
+-- what is printed in so many steps and at the end: the text of each step, until one stops; where the input ends, the last account
 unfoldable pub printed : ℕ → Between → List ℕ → List ℕ
 printed zero b input = accountBefore b
-printed (suc fuel) b input =
+printed (suc steps) b input =
     accountBefore b when eqb (length input) 0 otherwise
-    (stepOf b input .text ++ cond (stepOf b input .stops) [] (printed fuel (stepOf b input .next) (drop (sizeOf (itemOf input)) input)))
+    (stepOf b input .text ++ cond (stepOf b input .stops) [] (printed steps (stepOf b input .next) (drop (sizeOf (itemOf input)) input)))
+
+-- what is printed of the input from here on: an item has at least four octets, so as many steps as octets are enough
+abbrev pub textFrom : Between → List ℕ → List ℕ
+textFrom b input = printed (length input) b input
+
+-- all that the program prints
+abbrev pub programText : List ℕ → List ℕ
+programText input = textFrom nothingYet input

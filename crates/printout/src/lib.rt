@@ -19,7 +19,7 @@ ghost use Prim.Native.Nat.{_+_, _≤_};
 ghost use lib.ListN.{length};
 ghost use Rattle.lines.specs.Text.{Puts};
 ghost use Rattle.telling.specs.Account.{badLine};
-ghost use Rattle.printout.specs.Printed.{accountBefore, answerText, keyStep, frameStep, heardIn, stepOf, usedBy};
+ghost use Rattle.printout.specs.Printed.{accountBefore, answerText, keyStep, frameStep, heardIn, mostText, stepOf, usedBy};
 ghost use Rattle.printout.specs.Stepping.{betweenIn, Ready, Steps};
 
 // What is there between two items, beside the three lists of the record: whether a sequence was begun, the record's head and the
@@ -50,7 +50,7 @@ pub fn account_before(
     at: usize,
 ) -> usize
     requires { ⌜ Ready g (now marks) (now elapsed) (now sizes) ⌝ }
-    requires { ⌜ at + 275011 ≤ length (now out) ⌝ }
+    requires { ⌜ at + mostText ≤ length (now out) ⌝ }
     ensures { λ r. ⌜ Puts (accountBefore (betweenIn g (now (marks .entry)) (now (elapsed .entry)) (now (sizes .entry)))) (now (out .entry)) at r (now (out .exit)) ⌝ }
 {
     if g.begun {
@@ -71,7 +71,7 @@ fn begin(
 ) -> Went
     requires { ⌜ Ready g (now marks) (now elapsed) (now sizes) ⌝ }
     requires { ⌜ k .stamp ≤ 59999 ⌝ }
-    requires { ⌜ at + 275011 ≤ length (now out) ⌝ }
+    requires { ⌜ at + mostText ≤ length (now out) ⌝ }
     ensures { λ r. ⌜ Steps (keyStep (betweenIn g (now (marks .entry)) (now (elapsed .entry)) (now (sizes .entry))) k) 14
         r (now (marks .exit)) (now (elapsed .exit)) (now (sizes .exit)) (now (out .entry)) at (now (out .exit)) ⌝ }
 {
@@ -93,7 +93,7 @@ fn begin(
 
 // Bad input: prints where it is, and stops.
 fn bad(g: Going, out: &mut [u8], at: usize) -> Went
-    requires { ⌜ at + 275011 ≤ length (now out) ⌝ }
+    requires { ⌜ at + mostText ≤ length (now out) ⌝ }
     ensures { λ r. ⌜ Puts (badLine (g .offset)) (now (out .entry)) at (r .at) (now (out .exit))
         × (r .going ≡ g) × (r .stops ≡ true) × (r .used ≡ 0) ⌝ }
 {
@@ -107,7 +107,7 @@ fn bad(g: Going, out: &mut [u8], at: usize) -> Went
 
 // A refused frame is told with its place.
 fn put_answer(out: &mut [u8], at: usize, place: u64, t: Taken) -> usize
-    requires { ⌜ at + 275011 ≤ length (now out) ⌝ }
+    requires { ⌜ at + mostText ≤ length (now out) ⌝ }
     ensures { λ r. ⌜ Puts (answerText place t) (now (out .entry)) at r (now (out .exit)) ⌝ }
 {
     match t {
@@ -127,7 +127,7 @@ fn hear_frame(
     at: usize,
 ) -> Went
     requires { ⌜ Ready g (now marks) (now elapsed) (now sizes) ⌝ }
-    requires { ⌜ (at + 275011 ≤ length (now out)) × (length (now body) ≤ 8192) ⌝ }
+    requires { ⌜ (at + mostText ≤ length (now out)) × (length (now body) ≤ 8192) ⌝ }
     ensures { λ r. ⌜ Steps
         (frameStep (betweenIn g (now (marks .entry)) (now (elapsed .entry)) (now (sizes .entry))) (4 + length (now (body .entry)))
         (heardIn (betweenIn g (now (marks .entry)) (now (elapsed .entry)) (now (sizes .entry))) (now (body .entry))))
@@ -166,7 +166,7 @@ pub fn step(
     at: usize,
 ) -> Went
     requires { ⌜ Ready g (now marks) (now elapsed) (now sizes) ⌝ }
-    requires { ⌜ at + 275011 ≤ length (now out) ⌝ }
+    requires { ⌜ at + mostText ≤ length (now out) ⌝ }
     ensures { λ r. ⌜ Steps
         (stepOf (betweenIn g (now (marks .entry)) (now (elapsed .entry)) (now (sizes .entry))) (now (input .entry)))
         (usedBy (betweenIn g (now (marks .entry)) (now (elapsed .entry)) (now (sizes .entry))) (now (input .entry)))

@@ -1,118 +1,116 @@
 -- `passing::pass` meets its contract. Assumes nothing.
-use Prim.Native.Nat.{_+_, _-_}
-use mathlib.Core.Bool.{cond}
-use denote.Ref.{now}
-use Rattle.passing.proofs.OneMore.{Passing, passing-start, rest-long, used-less, passing-on, passes-less}
+use mathlib.Core.Path.{refl}
+use Rattle.passing.proofs.LastAccount.{turned-yes, turned-no, over-waits, room-waits, read-waits, last-told}
 use native.Mathlib.Omega.{arith}
 use borrow.Author.Needs.{needs}
 use Rattle.passing.proofs.pass.Statement.{statement}
 use Rattle.passing.proofs.pass.Tie as tie
 
-abbrev Inv-loop : tie.InvT-loop
-Inv-loop marks₀ elapsed₀ sizes₀ input ended out₀ going₀ at₀ left₀ stops₀ marks elapsed sizes out going at left stops =
-    Passing marks₀ elapsed₀ sizes₀ input out₀ marks elapsed sizes out going at left
+pass-items-requires : tie.Need-pass-items-requires
+pass-items-requires c κs = search needs
 
-abbrev μ-loop : tie.MeasureT-loop
-μ-loop marks₀ elapsed₀ sizes₀ input ended out₀ going₀ at₀ left₀ stops₀ marks elapsed sizes out going at left stops =
-    cond stops 0 (1 + left)
+same-length : tie.Need-same-length
+same-length c = search needs
 
-loop-holds : tie.Need-loop-holds Inv-loop μ-loop
-loop-holds c = passing-start _ _ _ _ _ _ (c .before .before .before .before .before .pre)
+same-length-2 : tie.Need-same-length-2
+same-length-2 c = search needs
 
-sub-goes-on : tie.Need-sub-goes-on Inv-loop μ-loop
-sub-goes-on c = search needs
+same-length-3 : tie.Need-same-length-3
+same-length-3 c = search needs
 
-goes-on-requires : tie.Need-goes-on-requires Inv-loop μ-loop
-goes-on-requires c κs = search needs
+same-length-4 : tie.Need-same-length-4
+same-length-4 c = search needs
 
-sub-item : tie.Need-sub-item Inv-loop μ-loop
-sub-item c = search needs
-
-sub-item-2 : tie.Need-sub-item-2 Inv-loop μ-loop
-sub-item-2 c = search needs
-
-part-item-start : tie.Need-part-item-start Inv-loop μ-loop
-part-item-start c = search needs
-
-part-item-end : tie.Need-part-item-end Inv-loop μ-loop
-part-item-end c = search needs
-
-step-requires : tie.Need-step-requires Inv-loop μ-loop
-step-requires c κs =
-    let t = c .before .before .before .before .before in
-    let g = t .before in
-    let i = g .before .loop .inv in
-    let o = g .goes-on .ensures .where-on (t .if1 .taken) in
-    (i .ready, omega (arith, i .at-in, o .1))
-
-sub-left : tie.Need-sub-left Inv-loop μ-loop
-sub-left c =
-    let w = c .before .before .before .before .before .before .before .before .before .before in
-    let t = w .before .before .before .before .before .before in
-    let g = t .before in
-    let i = g .before .loop .inv in
-    let l = rest-long (now (g .before .before .before .before .before .before .before .args .input)) _ (i .left-in) in
-    used-less _ _ _ _ _ _ _ _ _ _ _ _ i _ _ _ _ _ _ l (w .step .ensures)
-
-loop-less : tie.Need-loop-less Inv-loop μ-loop
-loop-less c =
-    let w = c .before .before .before .before .before .before .before .before .before .before in
-    let t = w .before .before .before .before .before .before in
-    let g = t .before in
-    let i = g .before .loop .inv in
-    let l = rest-long (now (g .before .before .before .before .before .before .before .args .input)) _ (i .left-in) in
-    passes-less _ _ _ _ _ _ _ _ _ _ _ _ i _ _ _ _ _ _ l (w .step .ensures) _ (g .goes-on .ensures .where-on (t .if1 .taken) .2)
-
-loop-again : tie.Need-loop-again Inv-loop μ-loop
-loop-again c =
-    let w = c .before .before .before .before .before .before .before .before .before .before in
-    let t = w .before .before .before .before .before .before in
-    let g = t .before in
-    let i = g .before .loop .inv in
-    let l = rest-long (now (g .before .before .before .before .before .before .before .args .input)) _ (i .left-in) in
-    let k = w .step .kept in
-    passing-on _ _ _ _ _ _ _ _ _ _ _ _ i _ _ _ _ _ _ l (w .step .ensures) (k .1 .0) (k .1 .1 .0) (k .1 .1 .1 .0) (k .1 .1 .1 .1 .1 .0)
-
-sub-t29 : tie.Need-sub-t29 Inv-loop μ-loop
-sub-t29 c = search needs
-
-same-length : tie.Need-same-length Inv-loop μ-loop
-same-length c = c .before .before .loop .inv .marks-same
-
-same-length-2 : tie.Need-same-length-2 Inv-loop μ-loop
-same-length-2 c = c .before .before .loop .inv .elapsed-same
-
-same-length-3 : tie.Need-same-length-3 Inv-loop μ-loop
-same-length-3 c = c .before .before .loop .inv .sizes-same
-
-same-length-4 : tie.Need-same-length-4 Inv-loop μ-loop
-same-length-4 c = c .before .before .loop .inv .out-same
-
-returns : tie.Need-returns Inv-loop μ-loop
+returns : tie.Need-returns
 returns c =
-    let i = c .before .before .loop .inv in
-    record { ready = i .ready; used-in = omega arith; at-in = i .at-in }
+    let w = c .before .before .before .before .before .before .before .before .before .pass-items in
+    (w .ensures .0, over-waits _ _ _ _ (c .if1 .taken))
+
+same-length-5 : tie.Need-same-length-5
+same-length-5 c = search needs
+
+same-length-6 : tie.Need-same-length-6
+same-length-6 c = search needs
+
+same-length-7 : tie.Need-same-length-7
+same-length-7 c = search needs
+
+same-length-8 : tie.Need-same-length-8
+same-length-8 c = search needs
+
+returns-2 : tie.Need-returns-2
+returns-2 c =
+    let w = c .before .before .before .before .before .before .before .before .before .before .pass-items in
+    let p = w .ensures .0 in
+    (p, read-waits _ _ _ _ (p .at-in) (c .before .if1 .left) (turned-yes _ (c .if2 .taken)) (w .ensures .1))
+
+sub-if3 : tie.Need-sub-if3
+sub-if3 c = search needs
+
+same-length-9 : tie.Need-same-length-9
+same-length-9 c = search needs
+
+same-length-10 : tie.Need-same-length-10
+same-length-10 c = search needs
+
+same-length-11 : tie.Need-same-length-11
+same-length-11 c = search needs
+
+same-length-12 : tie.Need-same-length-12
+same-length-12 c = search needs
+
+returns-3 : tie.Need-returns-3
+returns-3 c =
+    let w = c .before .before .before .before .before .before .before .before .before .before .before .before .pass-items in
+    let p = w .ensures .0 in
+    (p, room-waits _ _ _ _ (p .at-in) (c .if3 .taken))
+
+account-before-requires : tie.Need-account-before-requires
+account-before-requires c κs = search needs
+
+same-length-13 : tie.Need-same-length-13
+same-length-13 c = search needs
+
+same-length-14 : tie.Need-same-length-14
+same-length-14 c = search needs
+
+same-length-15 : tie.Need-same-length-15
+same-length-15 c = search needs
+
+same-length-16 : tie.Need-same-length-16
+same-length-16 c = search needs
+
+returns-4 : tie.Need-returns-4
+returns-4 c =
+    let room = c .before .before .before .before .before .before .before .before in
+    let w = room .before .before .before .before .before .before .before .before .before .before .before .before .pass-items in
+    let e = c .before .before .account-before in
+    (last-told _ _ _ _ _ _ _ _ _ _ _ (w .ensures .0) (room .before .before .before .if1 .left) (turned-no _ (room .before .before .if2 .left)) (room .if3 .left) (w .ensures .1) (e .ensures) (e .kept .1 .1 .1 .1 .0), over-waits _ _ _ _ refl)
 
 pub pass-spec : {M : Type 1} → statement M
 pass-spec =
     tie.close
     (tie.spec
-    Inv-loop
-    μ-loop
-    loop-holds
-    sub-goes-on
-    goes-on-requires
-    sub-item
-    sub-item-2
-    part-item-start
-    part-item-end
-    step-requires
-    sub-left
-    loop-less
-    loop-again
-    sub-t29
+    pass-items-requires
     same-length
     same-length-2
     same-length-3
     same-length-4
-    returns)
+    returns
+    same-length-5
+    same-length-6
+    same-length-7
+    same-length-8
+    returns-2
+    sub-if3
+    same-length-9
+    same-length-10
+    same-length-11
+    same-length-12
+    returns-3
+    account-before-requires
+    same-length-13
+    same-length-14
+    same-length-15
+    same-length-16
+    returns-4)
