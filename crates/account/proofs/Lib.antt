@@ -1,1 +1,4 @@
+pub mod AllTurns
+pub mod MovedDown
+pub mod OneTurn
 pub mod Started

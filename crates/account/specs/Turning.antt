@@ -1,11 +1,30 @@
--- What is kept from one read to the next. Assumes nothing.
+-- What is kept from one read to the next, and what is told at each. Assumes nothing.
 use Prim.Native.Nat.{ℕ, _≤_}
-use mathlib.Core.List.{List}
-use lib.ListN.{length}
+use mathlib.Core.Path.{_≡_}
+use mathlib.Core.List.{List, _++_}
+use lib.Dec.{ltb}
+use lib.ListN.{length, take}
 use Rattle.printout.specs.declared.Going.{Going}
-use Rattle.printout.specs.Stepping.{Ready}
+use Rattle.printout.specs.Printed.{Between}
+use Rattle.printout.specs.Stepping.{betweenIn, Ready}
+use Rattle.passing.specs.Passing.{Told}
+use Rattle.account.specs.declared.Done.{Done}
 
 -- the record is as it has to be, and the octets that are there fit the buffer
 pub record Turns (g : Going) (marks elapsed sizes input : List ℕ) (have : ℕ) : Type 0 where
   pub ready : Ready g marks elapsed sizes
   pub within : have ≤ length input
+
+-- octets were read behind those that were there
+pub record ReadOn (have : ℕ) (old : List ℕ) (r : ℕ) (new : List ℕ) : Type 0 where
+  pub more : have ≤ r
+  pub within : r ≤ length new
+  pub kept : take have new ≡ take have old
+
+-- of what was pending and what was got the text in memory is told, and the rest is pending; a buffer that was not filled is the
+-- input's end
+pub record Turned (b : Between) (pending : List ℕ) (r : Done) (marks elapsed sizes input out : List ℕ) : Type 0 where
+  pub got : List ℕ
+  pub told : Told b (pending ++ got) (ltb (length (pending ++ got)) (length input)) (take (r .at) out) (r .over) (betweenIn (r .going) marks elapsed sizes) (take (r .have) input)
+  pub at-in : r .at ≤ length out
+  pub turns : Turns (r .going) marks elapsed sizes input (r .have)

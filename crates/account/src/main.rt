@@ -8,65 +8,43 @@ use libc::STDIN_FILENO;
 use libc::STDOUT_FILENO;
 use passing::pass;
 use printout::Going;
-use printout::account_before;
 ghost use mathlib.Core.Path.{_≡_};
-ghost use Prim.Native.Nat.{_≤_};
-ghost use lib.ListN.{length};
-ghost use Rattle.printout.specs.Stepping.{Ready};
-ghost use Rattle.account.specs.Turning.{Turns};
+ghost use Prim.Native.Nat.{_+_, _≤_};
+ghost use lib.ListN.{length, take, drop};
+ghost use Rattle.printout.specs.Stepping.{betweenIn};
+ghost use Rattle.account.specs.Turning.{ReadOn, Turned, Turns};
 
 // Reads on behind the octets that are there, and answers how many are there then.
 fn read_on(input: &mut [u8], have: usize) -> usize
     requires { ⌜ have ≤ length (now input) ⌝ }
-    ensures { λ r. ⌜ r ≤ length (now (input .exit)) ⌝ }
+    ensures { λ r. ⌜ ReadOn have (now (input .entry)) r (now (input .exit)) ⌝ }
 {
     let behind = &mut input[have..];
     let got = read_full(STDIN_FILENO, behind);
     have + got
 }
 
-// Moves the octets from a place on to the front.
-fn move_down(input: &mut [u8], from: usize, to: usize)
-    requires { ⌜ (from ≤ to) × (to ≤ length (now input)) ⌝ }
+// Moves so many octets from a place on to the front.
+fn move_down(input: &mut [u8], from: usize, count: usize)
+    requires { ⌜ from + count ≤ length (now input) ⌝ }
+    ensures { λ _. ⌜ take count (now (input .exit)) ≡ take count (drop from (now (input .entry))) ⌝ }
 {
-    let mut i = from;
-    while i < to {
-        input[i - from] = input[i];
+    let mut i: usize = 0;
+    while i < count {
+        input[i] = input[from + i];
         i += 1;
     }
 }
 
-// What is there after a read: the octets that were not passed yet, and whether all is done.
+// What is there after a read: the octets that were not passed yet, where the text to print ends, and whether it is the last.
 struct Done {
     going: Going,
     have: usize,
+    at: usize,
     over: bool,
 }
 
-// The last account, where all is done and no item stopped the program.
-fn finish(
-    over: bool,
-    stops: bool,
-    g: Going,
-    marks: &[u8],
-    elapsed: &[u32],
-    sizes: &[u16],
-    out: &mut [u8],
-)
-    requires { ⌜ Ready g (now marks) (now elapsed) (now sizes) ⌝ }
-    requires { ⌜ 275011 ≤ length (now out) ⌝ }
-{
-    if !over {
-        return;
-    }
-    if stops {
-        return;
-    }
-    let at = account_before(g, marks, elapsed, sizes, out, 0);
-    write_all(STDOUT_FILENO, &out[..at]);
-}
-
-// Reads on, passes the items that are all there, and prints.
+// Reads on, passes the items that are all there, and puts what they print into memory.
 fn turn(
     g: Going,
     marks: &mut [u8],
@@ -77,43 +55,39 @@ fn turn(
     out: &mut [u8],
 ) -> Done
     requires { ⌜ Turns g (now marks) (now elapsed) (now sizes) (now input) have ⌝ }
-    requires { ⌜ 275011 ≤ length (now out) ⌝ }
-    ensures { λ r. ⌜ Turns (r .going) (now (marks .exit)) (now (elapsed .exit)) (now (sizes .exit)) (now (input .exit)) (r .have) ⌝ }
+    ensures { λ r. ⌜ Turned (betweenIn g (now (marks .entry)) (now (elapsed .entry)) (now (sizes .entry))) (take have (now (input .entry)))
+        r (now (marks .exit)) (now (elapsed .exit)) (now (sizes .exit)) (now (input .exit)) (now (out .exit)) ⌝ }
 {
     let n = read_on(input, have);
     let ended = n < input.len();
     let w = pass(g, marks, elapsed, sizes, &input[..n], ended, out);
     let going = w.going;
     let used = w.used;
-    let stops = w.stops;
-    let told = write_all(STDOUT_FILENO, &out[..w.at]);
-    let over = is_over(told, stops, ended, n - used);
-    finish(over, stops, going, marks, elapsed, sizes, out);
-    move_down(input, used, n);
+    move_down(input, used, n - used);
     Done {
         going: going,
         have: n - used,
-        over: over,
+        at: w.at,
+        over: w.stops,
     }
 }
 
-// Nothing is to be printed any more: nobody reads it, or an item stopped the program, or the last account was the last text.
-fn is_over(told: bool, stops: bool, ended: bool, left: usize) -> bool {
-    if !told {
-        return true;
+// How many turns may follow: none where all is told, or nobody reads it.
+fn turns_after(turns: u64, over: bool, told: bool) -> u64
+    ensures { λ r. ⌜ r ≤ turns ⌝ }
+{
+    if over {
+        return 0;
     }
-    if stops {
-        return true;
+    if told {
+        return turns;
     }
-    if ended {
-        return left == 0;
-    }
-    false
+    0
 }
 
-// Reads until the input ends, prints, and closes with the last account.
+// Reads until the input ends, and prints.
 fn run(marks: &mut [u8], elapsed: &mut [u32], sizes: &mut [u16], input: &mut [u8], out: &mut [u8])
-    requires { ⌜ (length (now marks) ≡ 4096) × (length (now elapsed) ≡ 4096) × (length (now sizes) ≡ 4096) × (275011 ≤ length (now out)) ⌝ }
+    requires { ⌜ (length (now marks) ≡ 4096) × (length (now elapsed) ≡ 4096) × (length (now sizes) ≡ 4096) ⌝ }
 {
     clear(marks, elapsed, sizes);
     let mut going = Going {
@@ -127,12 +101,10 @@ fn run(marks: &mut [u8], elapsed: &mut [u32], sizes: &mut [u16], input: &mut [u8
     let mut turns = u64::MAX;
     while turns > 0 {
         let t = turn(going, marks, elapsed, sizes, input, have, out);
+        let told = write_all(STDOUT_FILENO, &out[..t.at]);
         going = t.going;
         have = t.have;
-        turns -= 1;
-        if t.over {
-            turns = 0;
-        }
+        turns = turns_after(turns - 1, t.over, told);
     }
 }
 

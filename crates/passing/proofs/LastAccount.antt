@@ -2,7 +2,7 @@
 use Prim.Native.Nat.{ℕ, _+_, _-_, _≤_, _<_}
 use mathlib.Core.Path.{_≡_, refl, sym, ap, _∙_}
 use mathlib.Core.Logic.{_⊎_, inl, inr}
-use mathlib.Core.Bool.{Bool, true, false, not, true≢false, false≢true}
+use mathlib.Core.Bool.{Bool, true, false, true≢false}
 use mathlib.Core.List.{List, [], _++_}
 use native.Mathlib.Omega.{arith}
 use borrow.Author.Tests.{ltb-true, ltb-false, leb-false, le-ltb}
@@ -19,15 +19,6 @@ use Rattle.printout.specs.Stepping.{betweenIn, Ready}
 use Rattle.passing.specs.Passing.{goesOn, longestItem, Told, Passed, Waits}
 use Rattle.passing.proofs.Telling.{told-then, told-last}
 use Rattle.passing.proofs.OneMore.{puts-within}
-
--- a test turned round
-pub turned-yes : (t : Bool) → not t ≡ true → t ≡ false
-turned-yes true e = absurd (false≢true e)
-turned-yes false e = refl
-
-pub turned-no : (t : Bool) → not t ≡ false → t ≡ true
-turned-no true e = refl
-turned-no false e = absurd (true≢false e)
 
 -- where all is over nothing waits
 pub over-waits : (input : List ℕ) (ended : Bool) (r : Went) (new : List ℕ) → r .stops ≡ true → Waits input ended r new

@@ -1,3 +1,4 @@
 pub mod LastAccount
 pub mod OneMore
 pub mod Telling
+pub mod WholeInput

@@ -1,5 +1,6 @@
 -- `account::run` is safe and ends: the reads are counted down from a number that no run uses up. Assumes nothing.
-use mathlib.Core.Path.{refl, ap, _∙_}
+use mathlib.Core.Path.{refl, sym, ap, _∙_}
+use lib.Seq.{length-take-le}
 use Rattle.hearing.specs.declared.contradicting.Span.{Span}
 use Rattle.account.proofs.Started.{started, Loop}
 use native.Mathlib.Omega.{arith}
@@ -37,7 +38,6 @@ loop-holds c =
         ready = started _ _ _ _ _ _ _ (o .open-head .ensures) (rw n at (z .0)) (rw n at (z .1)) (rw n at (z .2)) (ap (λ (x : Span). x .end) (c .empty-span .ensures));
         within = omega arith;
       };
-      room = s .pre .3;
       marks-same = refl;
       elapsed-same = refl;
       sizes-same = refl;
@@ -47,41 +47,33 @@ loop-holds c =
 
 turn-requires : tie.Need-turn-requires Inv-loop μ-loop
 turn-requires c κs =
-    let i = c .before .before .before .before .before .before .loop .inv in
-    (i .turns, i .room)
+    c .before .before .before .before .before .before .loop .inv .turns
 
-sub-turns : tie.Need-sub-turns Inv-loop μ-loop
-sub-turns c = search needs
+slice-reshare-prefix-write-all : tie.Need-slice-reshare-prefix-write-all Inv-loop μ-loop
+slice-reshare-prefix-write-all c = c .before .before .before .before .before .before .before .before .before .before .turn .ensures .at-in
+
+slice-aggregate-write-all : tie.Need-slice-aggregate-write-all Inv-loop μ-loop
+slice-aggregate-write-all c = sym (length-take-le _ _ (c .before .before .before .before .before .before .before .before .before .before .before .turn .ensures .at-in))
+
+write-all-requires : tie.Need-write-all-requires Inv-loop μ-loop
+write-all-requires c κs = search needs
+
+sub-turns-after : tie.Need-sub-turns-after Inv-loop μ-loop
+sub-turns-after c = search needs
+
+turns-after-requires : tie.Need-turns-after-requires Inv-loop μ-loop
+turns-after-requires c κs = search needs
 
 loop-less : tie.Need-loop-less Inv-loop μ-loop
-loop-less c = search needs
+loop-less c = let l = c .turns-after .ensures in omega (arith, l)
 
 loop-again : tie.Need-loop-again Inv-loop μ-loop
 loop-again c =
-    let t = c .before .before .before .before .before .before .before .before .before .before .before .before in
+    let t = c .before .before .before .before .before .before .before .before .before .before .before .before .before .before in
     let i = t .before .before .before .before .before .before .before .loop .inv in
     let k = t .turn .kept in
     record {
-      turns = t .turn .ensures;
-      room = let r = i .room in let q = k .1 .1 .1 .1 .1 .1 .0 in omega (arith, r, q);
-      marks-same = k .1 .0 ∙ i .marks-same;
-      elapsed-same = k .1 .1 .0 ∙ i .elapsed-same;
-      sizes-same = k .1 .1 .1 .0 ∙ i .sizes-same;
-      input-same = k .1 .1 .1 .1 .0 ∙ i .input-same;
-      out-same = k .1 .1 .1 .1 .1 .1 .0 ∙ i .out-same;
-    }
-
-loop-less-2 : tie.Need-loop-less-2 Inv-loop μ-loop
-loop-less-2 c = search needs
-
-loop-again-2 : tie.Need-loop-again-2 Inv-loop μ-loop
-loop-again-2 c =
-    let t = c .before .before .before .before .before .before .before .before .before .before .before .before in
-    let i = t .before .before .before .before .before .before .before .loop .inv in
-    let k = t .turn .kept in
-    record {
-      turns = t .turn .ensures;
-      room = let r = i .room in let q = k .1 .1 .1 .1 .1 .1 .0 in omega (arith, r, q);
+      turns = t .turn .ensures .turns;
       marks-same = k .1 .0 ∙ i .marks-same;
       elapsed-same = k .1 .1 .0 ∙ i .elapsed-same;
       sizes-same = k .1 .1 .1 .0 ∙ i .sizes-same;
@@ -118,11 +110,13 @@ run-spec =
     empty-span-requires
     loop-holds
     turn-requires
-    sub-turns
+    slice-reshare-prefix-write-all
+    slice-aggregate-write-all
+    write-all-requires
+    sub-turns-after
+    turns-after-requires
     loop-less
     loop-again
-    loop-less-2
-    loop-again-2
     same-length
     same-length-2
     same-length-3

@@ -1,8 +1,9 @@
 -- `passing::pass` meets its contract. Assumes nothing.
 use mathlib.Core.Path.{refl}
-use Rattle.passing.proofs.LastAccount.{turned-yes, turned-no, over-waits, room-waits, read-waits, last-told}
+use Rattle.passing.proofs.LastAccount.{over-waits, room-waits, read-waits, last-told}
 use native.Mathlib.Omega.{arith}
 use borrow.Author.Needs.{needs}
+use borrow.Author.Tests.{not-true, not-false}
 use Rattle.passing.proofs.pass.Statement.{statement}
 use Rattle.passing.proofs.pass.Tie as tie
 
@@ -42,7 +43,7 @@ returns-2 : tie.Need-returns-2
 returns-2 c =
     let w = c .before .before .before .before .before .before .before .before .before .before .pass-items in
     let p = w .ensures .0 in
-    (p, read-waits _ _ _ _ (p .at-in) (c .before .if1 .left) (turned-yes _ (c .if2 .taken)) (w .ensures .1))
+    (p, read-waits _ _ _ _ (p .at-in) (c .before .if1 .left) (not-true _ (c .if2 .taken)) (w .ensures .1))
 
 sub-if3 : tie.Need-sub-if3
 sub-if3 c = search needs
@@ -85,7 +86,7 @@ returns-4 c =
     let room = c .before .before .before .before .before .before .before .before in
     let w = room .before .before .before .before .before .before .before .before .before .before .before .before .pass-items in
     let e = c .before .before .account-before in
-    (last-told _ _ _ _ _ _ _ _ _ _ _ (w .ensures .0) (room .before .before .before .if1 .left) (turned-no _ (room .before .before .if2 .left)) (room .if3 .left) (w .ensures .1) (e .ensures) (e .kept .1 .1 .1 .1 .0), over-waits _ _ _ _ refl)
+    (last-told _ _ _ _ _ _ _ _ _ _ _ (w .ensures .0) (room .before .before .before .if1 .left) (not-false _ (room .before .before .if2 .left)) (room .if3 .left) (w .ensures .1) (e .ensures) (e .kept .1 .1 .1 .1 .0), over-waits _ _ _ _ refl)
 
 pub pass-spec : {M : Type 1} → statement M
 pass-spec =
