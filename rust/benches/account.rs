@@ -19,25 +19,33 @@ use std::thread;
 use std::time::Instant;
 
 const OCTETS: usize = 40_000_000;
-const PACKETS: u64 = 1_000;
 const ROUNDS: usize = 15;
 
-/// Sequences of a thousand packets of one size, of which one in a hundred was lost; closings of both types in turn.
-fn generated(reader: &Reader, payload: u64) -> Vec<u8> {
-    let mut input = Vec::with_capacity(OCTETS + (1 << 16));
-    let mut stamp = 0;
-    while input.len() < OCTETS {
-        input.extend(items::key(Key { bearer: 21, period: 9, stamp }));
-        for number in (0..PACKETS).filter(|number| number % 100 != 57) {
-            input.extend(items::frame(&generate::data(reader, stamp, number, payload * number, payload as usize)));
+/// Sequences of so many packets with payloads of one size. One packet in a hundred was lost; closings of both types come in turn.
+#[derive(Clone, Copy)]
+struct Shape {
+    payload: u64,
+    packets: u64,
+}
+
+impl Shape {
+    fn items(self, reader: &Reader) -> Vec<u8> {
+        let Shape { payload, packets } = self;
+        let mut input = Vec::with_capacity(OCTETS + (1 << 21));
+        let mut stamp = 0;
+        while input.len() < OCTETS {
+            input.extend(items::key(Key { bearer: 21, period: 9, stamp }));
+            for number in (0..packets).filter(|number| number % 100 != 57) {
+                input.extend(items::frame(&generate::data(reader, stamp, number, payload * number, payload as usize)));
+            }
+            input.extend(items::frame(&match stamp % 2 {
+                0 => generate::closing(reader, stamp, packets, payload * packets),
+                _ => generate::closing_with_lengths(reader, stamp, &vec![payload; packets as usize]),
+            }));
+            stamp += 1;
         }
-        input.extend(items::frame(&match stamp % 2 {
-            0 => generate::closing(reader, stamp, PACKETS, payload * PACKETS),
-            _ => generate::closing_with_lengths(reader, stamp, &[payload; PACKETS as usize]),
-        }));
-        stamp += 1;
+        input
     }
-    input
 }
 
 /// Where a program's input comes from.
@@ -86,13 +94,13 @@ impl From<'_> {
     }
 }
 
-fn compare(payload: u64, name: &str, from: &From, programs: [&Path; 2]) {
+fn compare(Shape { payload, packets }: Shape, name: &str, from: &From, programs: [&Path; 2]) {
     let [ours, theirs] = programs.map(|program| from.run(program, Stdio::piped()));
     assert!(ours == theirs && !ours.is_empty(), "the programs print other accounts");
     let [(our_best, our_median), (best, median)] = from.race(programs);
     println!(
-        "{payload:>6} octets, {name}: ours best {our_best:.1} ms, median {our_median:.1} ms; plain Rust best {best:.1} ms, median \
-         {median:.1} ms; ours takes {:.2}x by best, {:.2}x by median",
+        "{payload:>6} octets, {packets:>5} packets, {name}: ours {our_best:.1} ms, median {our_median:.1}; plain Rust {best:.1} ms, median \
+         {median:.1}; ours takes {:.2}x of the best, {:.2}x of the median",
         our_best / best,
         our_median / median
     );
@@ -112,12 +120,13 @@ fn main() {
     assert!(ours.exists(), "the program is not there: run `rt check account` in the repository's root first");
     let programs = [&ours, Path::new(env!("CARGO_BIN_EXE_plain_account"))];
     let reader = Reader::new();
-    println!("accounts of {} MB of items, sequences of {PACKETS} packets, one in a hundred lost; {ROUNDS} rounds", OCTETS / 1_000_000);
-    for payload in [1_400, 64] {
-        let items = generated(&reader, payload);
-        let file = Temporary(std::env::temp_dir().join(format!("quimdoral-{}-{payload}.items", std::process::id())));
+    println!("accounts of {} MB of items, by payload and packets a sequence; best and median of {ROUNDS} rounds", OCTETS / 1_000_000);
+    for (payload, packets) in [(1_400, 1_000), (64, 1_000), (64, 100)] {
+        let shape = Shape { payload, packets };
+        let items = shape.items(&reader);
+        let file = Temporary(std::env::temp_dir().join(format!("quimdoral-{}.items", std::process::id())));
         fs::write(&file.0, &items).expect("room for the items");
-        compare(payload, "from a file", &From::File(&file.0), programs);
-        compare(payload, "through a pipe", &From::Pipe(&items), programs);
+        compare(shape, "from a file", &From::File(&file.0), programs);
+        compare(shape, "through a pipe", &From::Pipe(&items), programs);
     }
 }

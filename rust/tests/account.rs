@@ -363,7 +363,7 @@ fn many_short_sequences() {
     let (refused, accounts) = tally(&printed_alike(&input, "short sequences"));
     assert_eq!(accounts, 6_000);
     // every refusal of hearing came up often enough to mean something
-    assert!(refused[1..].iter().all(|&times| times > 200), "{refused:?}");
+    assert!(refused[1..].iter().all(|&times| times > 100), "{refused:?}");
 }
 
 /// Sequences that fill the record and go beyond it.
@@ -378,7 +378,7 @@ fn some_long_sequences() {
     }
     let (refused, accounts) = tally(&printed_alike(&input, "long sequences"));
     assert_eq!(accounts, 8);
-    assert!(refused[9..].iter().all(|&times| times > 200), "{refused:?}");
+    assert!(refused[9..].iter().all(|&times| times > 100), "{refused:?}");
 }
 
 /// Changes an input in one place: a bit, an octet more or less, an item's length or kind, a key's stamp, or its end.
