@@ -1,5 +1,5 @@
-//! The account program of document 01 in plain Rust, std alone, written from document 01 and TS 25.446: a program of its own, which the
-//! benchmark times, and the same as a function, which the tests compare with.
+//! The account program in plain Rust, std alone, written from document 01 and TS 25.446: a program of its own, which the benchmark times,
+//! and the same as a function, which the tests compare with.
 //!
 //! It reads and prints in large pieces. The checks go by tables over slices of 16 and 8 octets. A bit a packet says what was heard, so
 //! the neighbours of a packet are found in a few steps, and nothing but the bits is cleared for a new sequence.
