@@ -12,3 +12,8 @@ past a b x false h e = (refl, e)
 pub whichever : {A : Type 0} (P : A → Type 0) (a b : A) (t : Bool) → P a → (t ≡ false → P b) → P (a when t otherwise b)
 whichever P a b true p q = p
 whichever P a b false p q = q refl
+
+-- the same, where what the test says is used on both sides
+pub tested : {A : Type 0} (P : A → Type 0) (a b : A) (t : Bool) → (t ≡ true → P a) → (t ≡ false → P b) → P (a when t otherwise b)
+tested P a b true p q = p refl
+tested P a b false p q = q refl

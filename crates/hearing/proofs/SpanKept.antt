@@ -11,17 +11,15 @@ use lib.Seq.{getD-set-other}
 use borrow.Author.Tests.{ne-eqb, ltb-true, ltb-false, leb-true, leb-false}
 use Rattle.fields.specs.Choice.{_when_otherwise_}
 use Rattle.fields.proofs.Tests.{either}
-use Rattle.units.specs.declared.Refusal.{Refusal}
 use Rattle.units.specs.Refusals.{refusing}
 use Rattle.frame.specs.declared.DataPdu.{DataPdu}
-use Rattle.frame.specs.Paper.{CountPaper}
 use Rattle.reception.specs.declared.Head.{Head}
-use Rattle.reception.specs.declared.Taken.{Taken}
 use Rattle.reception.specs.declared.Taken.the-variants.{Done, Refused}
 use Rattle.reception.specs.declared.Taking.{Taking}
 use Rattle.reception.specs.Adding.{packetContradicts}
-use Rattle.reception.specs.Hearing.{Kept, heldBy, Outcome, refuses, takes, otherKey, keepPacket, hearPacket, takenOf, takenPaper, Takes}
+use Rattle.reception.specs.Hearing.{Kept, heldBy, Outcome, refuses, takes, otherKey, keepPacket, hearPacket, takenOf, Takes}
 use Rattle.reception.specs.Neighbours.{NoneBefore, NoneFrom}
+use Rattle.reception.proofs.OnePaper.{taken-known}
 use Rattle.hearing.proofs.Answered.{packet-other, packet-beyond, packet-off, packet-taken}
 use Rattle.hearing.specs.declared.contradicting.Span.{Span}
 use Rattle.hearing.specs.declared.following.Following.{Following}
@@ -83,29 +81,18 @@ packet-done k bearer period d =
     (either (leb (length (k .marks)) (d .number .0))))
     (either (otherKey (k .head) bearer period (d .stamp)))
 
--- a taken frame is not answered as a refused one, nor the other way round
-paper-done : (t : Taken) → takenPaper t ≡ takenPaper Done → t ≡ Done
-unfolding takenPaper
-paper-done Done e = refl
-paper-done (Refused x) e = let z : _≡_ {A = ℕ} 0 1 = ap (λ (p : CountPaper). p .accepted) e in absurd (omega (arith, z))
-
-paper-refused : (t : Taken) (x : Refusal) → takenPaper t ≡ takenPaper (Refused x) → (y : Refusal) × (t ≡ Refused y)
-unfolding takenPaper
-paper-refused Done x e = let z : _≡_ {A = ℕ} 1 0 = ap (λ (p : CountPaper). p .accepted) e in absurd (omega (arith, z))
-paper-refused (Refused y) x e = (y, refl)
-
 -- the span after a data PDU, by what became of it
 span-right : (k : Kept) (d : DataPdu) (u : Outcome) (t : Taking) (marks elapsed sizes : List ℕ) (s : Span) → PacketDone k d u
     → Takes u t marks elapsed sizes → NoneBefore (k .marks) (s .first) → NoneFrom (k .marks) (s .end)
     → NoneBefore marks (spanAfter (t .answer) s (d .number .0) .first) × NoneFrom marks (spanAfter (t .answer) s (d .number .0) .end)
 span-right k d u t marks elapsed sizes s (taken lt e) p o f =
-    let a = paper-done (t .answer) (rw e at (p .says)) in
+    let a = taken-known (t .answer) Done (rw e at (p .says)) in
     let m : marks ≡ set (k .marks) (d .number .0) 1 = ap (λ (x : Kept). x .marks) (rw e at (p .leaves)) in
     rw (a, m) (wider-before (k .marks) s (d .number .0) o, wider-from (k .marks) s (d .number .0) lt f)
 span-right k d u t marks elapsed sizes s (refused n e) p o f =
-    let a = paper-refused (t .answer) (refusing n) (rw e at (p .says)) in
+    let a = taken-known (t .answer) (Refused (refusing n)) (rw e at (p .says)) in
     let m : marks ≡ k .marks = ap (λ (x : Kept). x .marks) (rw e at (p .leaves)) in
-    rw (a .1, m) (o, f)
+    rw (a, m) (o, f)
 
 pub follows-packet : (k : Kept) (bearer period : ℕ) (d : DataPdu) (t : Taking) (marks elapsed sizes : List ℕ) (s : Span)
     → Takes (hearPacket k bearer period d) t marks elapsed sizes → NoneBefore (k .marks) (s .first) → NoneFrom (k .marks) (s .end)

@@ -1,13 +1,13 @@
 -- The items one by one: how the octets stand for each answer. Assumes nothing.
 use Prim.Native.Nat.{ℕ, _+_, _≤_, _<_}
-use mathlib.Core.Path.{_≡_, refl}
-use mathlib.Core.Bool.{Bool, true, false, not}
+use mathlib.Core.Path.{_≡_}
+use mathlib.Core.Bool.{not}
 use mathlib.Core.List.{List}
 use borrow.Author.Tests.{ltb-true, ltb-false, eqb-true, eqb-false, lt-ltb, le-ltb, ne-eqb, not-true, not-false}
 use lib.Dec.{ltb, eqb}
 use lib.ListN.{length}
 use native.Mathlib.Omega.{arith}
-use Rattle.fields.specs.Choice.{_when_otherwise_}
+use Rattle.fields.proofs.Choosing.{tested}
 use Rattle.units.specs.Limits.{lastStamp}
 use Rattle.items.specs.declared.Item.{Item}
 use Rattle.items.specs.declared.Item.the-variants.{Begins, Frame, Wrong, Cut}
@@ -24,11 +24,6 @@ pub data Reads (s : List ℕ) : Item → Type 0 where
   too-long : 4 ≤ length s → kind s ≡ 2 → mostBody < bodyLength s → Reads s Wrong
   frame-cut : 4 ≤ length s → kind s ≡ 2 → bodyLength s ≤ mostBody → length s < 4 + bodyLength s → Reads s Cut
   frame : kind s ≡ 2 → bodyLength s ≤ mostBody → 4 + bodyLength s ≤ length s → Reads s (Frame (bodyLength s))
-
--- a chain, followed by what its first test tells
-tested : {A : Type 0} (P : A → Type 0) (a b : A) (t : Bool) → (t ≡ true → P a) → (t ≡ false → P b) → P (a when t otherwise b)
-tested P a b true p q = p refl
-tested P a b false p q = q refl
 
 reads-key : (s : List ℕ) → 4 ≤ length s → kind s ≡ 1 → Reads s (beginning s)
 unfolding beginning
