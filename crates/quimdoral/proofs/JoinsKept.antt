@@ -1,7 +1,7 @@
 -- How answers of a join meet the promise of the exported function. Assumes nothing.
 use Prim.Native.Nat.{ℕ, _+_, _*_, _≤_, _<_}
 use mathlib.Core.Path.{_≡_, refl, sym, ap, _∙_}
-use mathlib.Core.Bool.{Bool, true, false, not, _||_}
+use mathlib.Core.Bool.{false, not, _||_}
 use mathlib.Core.List.{List}
 use native.Mathlib.Omega.{arith}
 use lib.Dec.{ltb, eqb}
@@ -11,7 +11,6 @@ use Rattle.units.specs.declared.Refusal.{Refusal}
 use Rattle.units.specs.Limits.{mostCapacity}
 use Rattle.units.specs.Refusals.{contradiction, capacitiesDiffer}
 use Rattle.fields.specs.Runs.{front}
-use Rattle.fields.specs.Choice.{_when_otherwise_}
 use Rattle.fields.proofs.Tests.{or-false}
 use Rattle.frame.specs.Paper.{CountPaper}
 use Rattle.reception.specs.declared.Joined.{Joined}
@@ -22,6 +21,7 @@ use Rattle.reception.specs.Joining.{JoinOutcome, capacitiesOff, otherRecord, lo
 use Rattle.reception.proofs.KeptAsHeld.{lists-matched}
 use Rattle.quimdoral.specs.Records.{numbersOf}
 use Rattle.quimdoral.specs.Joins.{joinNumber, joinedHeadAfter, KeepsJoined}
+use Rattle.quimdoral.proofs.EitherWay.{either-way}
 
 -- what a join names has at most 17 bits
 abbrev Small : JoinOutcome → Type 0
@@ -29,11 +29,6 @@ Small t = joinedPaper (t .answer) .count ≤ 65536
 
 below-capacity : (a b : Kept) → capacitiesOff a b ≡ false → length (a .marks) ≤ mostCapacity
 below-capacity a b h = lists-matched (a .marks) (a .elapsed) (a .sizes) (or-false (unmatched a) (unmatched b || not (eqb (length (a .marks)) (length (b .marks)))) h .0) .room
-
--- what holds of both answers, each where it is given, holds of the choice
-either-way : {A : Type 0} (P : A → Type 0) (a b : A) (t : Bool) → (t ≡ true → P a) → (t ≡ false → P b) → P (a when t otherwise b)
-either-way P a b true p q = p refl
-either-way P a b false p q = q refl
 
 pub named-small : (a b : Kept) → Small (joinRecords a b)
 unfolding joinRecords joinedPaper

@@ -1,3 +1,5 @@
+pub mod Counted
+pub mod EitherWay
 pub mod JoinsKept
 pub mod RecordsKept
 pub mod ReportsTold

@@ -1,3 +1,4 @@
+pub mod Answers
 pub mod Exports
 pub mod Joins
 pub mod Records

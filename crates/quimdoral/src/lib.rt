@@ -1,5 +1,6 @@
 // The library as C and Rust link it: functions on numbers and slices, each a call of the proved function of its layer and with
 // the same promise. A slice is passed as a pointer and a length.
+mod frames;
 mod joins;
 mod records;
 mod reports;

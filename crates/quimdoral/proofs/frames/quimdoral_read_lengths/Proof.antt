@@ -1,0 +1,50 @@
+-- `quimdoral::frames::quimdoral_read_lengths` meets its contract. Assumes nothing.
+use Rattle.quimdoral.proofs.Counted.{listed-refused, listed-done}
+use borrow.Author.Needs.{needs}
+use Rattle.quimdoral.proofs.frames.quimdoral_read_lengths.Statement.{statement}
+use Rattle.quimdoral.proofs.frames.quimdoral_read_lengths.Tie as tie
+
+read-lengths-requires : tie.Need-read-lengths-requires
+read-lengths-requires c κs = search needs
+
+enum-known-listed : tie.Need-enum-known-listed
+enum-known-listed c = search needs
+
+cast-result : tie.Need-cast-result
+cast-result c = search needs
+
+enum-known-listed-2 : tie.Need-enum-known-listed-2
+enum-known-listed-2 c = search needs
+
+cast-result-2 : tie.Need-cast-result-2
+cast-result-2 c = search needs
+
+mul-result : tie.Need-mul-result
+mul-result c = search needs
+
+same-length : tie.Need-same-length
+same-length c = search needs
+
+returns : tie.Need-returns
+returns c = listed-refused _ _ _ _ (c .before .before .before .before .before .before .read-lengths .ensures) _ (c .before .before .listed .given .1)
+
+same-length-2 : tie.Need-same-length-2
+same-length-2 c = search needs
+
+returns-2 : tie.Need-returns-2
+returns-2 c = listed-done _ _ _ _ (c .before .before .before .before .before .before .read-lengths .ensures) _ (c .before .before .listed2 .given .1)
+
+pub quimdoral-read-lengths-spec : {M : Type 1} → statement M
+quimdoral-read-lengths-spec =
+    tie.close
+    (tie.spec
+    read-lengths-requires
+    enum-known-listed
+    cast-result
+    enum-known-listed-2
+    cast-result-2
+    mul-result
+    same-length
+    returns
+    same-length-2
+    returns-2)
