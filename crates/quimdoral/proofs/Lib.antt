@@ -3,4 +3,5 @@ pub mod EitherWay
 pub mod JoinsKept
 pub mod RecordsKept
 pub mod ReportsTold
+pub mod SendersKept
 pub mod StoredInFront

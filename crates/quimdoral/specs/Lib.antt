@@ -3,3 +3,4 @@ pub mod Exports
 pub mod Joins
 pub mod Records
 pub mod Reports
+pub mod Senders

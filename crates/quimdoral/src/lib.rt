@@ -4,6 +4,7 @@ mod frames;
 mod joins;
 mod records;
 mod reports;
+mod senders;
 
 use frame::Read;
 use units::refusals::NO_ROOM;

@@ -17,7 +17,8 @@ ghost use Rattle.reception.specs.Hearing.{keptIn, unused, emptyKept, freshRecor
 ghost use Rattle.reception.specs.Several.{answers, framesIn, hearSequence};
 ghost use Rattle.quimdoral.specs.Records.{noHead, headOf, numbersOf, Keeps, Numbers};
 
-const WIDEST: u64 = 4294967295;
+// The largest number of 32 bits.
+pub const WIDEST: u64 = 4294967295;
 
 // The head that stands for numbers that are no head's.
 fn no_head() -> Head

@@ -1,0 +1,47 @@
+-- `quimdoral::senders::keep_sent` meets its contract. Assumes nothing.
+use Rattle.quimdoral.proofs.Counted.{one-refused, one-done, done-few}
+use Rattle.quimdoral.proofs.SendersKept.{sent-refused, sent-done}
+use borrow.Author.Needs.{needs}
+use Rattle.quimdoral.proofs.senders.keep_sent.Statement.{statement}
+use Rattle.quimdoral.proofs.senders.keep_sent.Tie as tie
+
+enum-known-answer : tie.Need-enum-known-answer
+enum-known-answer c = search needs
+
+cast-result : tie.Need-cast-result
+cast-result c = search needs
+
+enum-known-answer-2 : tie.Need-enum-known-answer-2
+enum-known-answer-2 c = search needs
+
+put-state-requires : tie.Need-put-state-requires
+put-state-requires c κs = search needs
+
+counted-requires : tie.Need-counted-requires
+counted-requires c κs = done-few _ _ (c .before .before .before .before .before .answer2 .given .1) (c .before .before .before .before .before .before .before .before .before .pre .1)
+
+returns : tie.Need-returns
+returns c =
+    let e = c .before .before .answer .given .1 in
+    (one-refused _ _ e, sent-refused _ _ _ _ e)
+
+same-length : tie.Need-same-length
+same-length c = search needs
+
+returns-2 : tie.Need-returns-2
+returns-2 c =
+    let e = c .before .before .before .before .before .before .answer2 .given .1 in
+    (one-done _ _ _ e (c .counted .ensures), sent-done _ _ _ _ _ e (c .before .before .before .put-state .ensures))
+
+pub keep-sent-spec : {M : Type 1} → statement M
+keep-sent-spec =
+    tie.close
+    (tie.spec
+    enum-known-answer
+    cast-result
+    enum-known-answer-2
+    put-state-requires
+    counted-requires
+    returns
+    same-length
+    returns-2)
