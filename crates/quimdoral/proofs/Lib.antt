@@ -5,3 +5,4 @@ pub mod RecordsKept
 pub mod ReportsTold
 pub mod SendersKept
 pub mod StoredInFront
+pub mod TicksTold

@@ -4,3 +4,4 @@ pub mod Joins
 pub mod Records
 pub mod Reports
 pub mod Senders
+pub mod Ticks

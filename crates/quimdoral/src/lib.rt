@@ -5,6 +5,7 @@ mod joins;
 mod records;
 mod reports;
 mod senders;
+mod ticks;
 
 use frame::Read;
 use units::refusals::NO_ROOM;
