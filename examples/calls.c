@@ -1,0 +1,142 @@
+/*
+ * Every function of quimdoral.h, called once or more on the bench examples A to D and I of the rules: nothing else compares the header with
+ * the library. Prints nothing but what is wrong, and ends with status 0 only if nothing is.
+ */
+#include <stdio.h>
+#include <string.h>
+
+#include "quimdoral.h"
+
+static const uint8_t a[] = {0x10, 0, 0, 0, 0, 0, 0, 0, 0, 0x38, 0x00};
+static const uint8_t b[] = {0x10, 0, 0, 0, 0, 0, 0, 0, 0, 0x3A, 0x33, 0x01};
+static const uint8_t c[] = {0, 0, 0, 0, 1, 0, 0, 0, 1, 0, 0, 1, 0, 0, 0, 0, 1, 0x9C};
+static const uint8_t d[] = {0x30, 0, 0, 0, 1, 0, 0, 0, 1, 0, 0, 1, 0, 0, 0, 0, 1, 0x00, 0x31, 0x00, 0x10};
+static const uint8_t payload[] = {0x01};
+static const uint16_t lengths[] = {1};
+static int wrong;
+
+static void expect(int right, const char *what)
+{
+    if (!right) {
+        fprintf(stderr, "calls: %s\n", what);
+        wrong = 1;
+    }
+}
+
+/* The answer says that the frame was written, it stands in front of the memory, and behind it nothing differs. */
+static void expect_frame(uint64_t answer, const uint8_t *out, const uint8_t *frame, size_t length, const char *what)
+{
+    expect(QUIMDORAL_REFUSAL(answer) == 0 && QUIMDORAL_VALUE(answer) == length, what);
+    expect(memcmp(out, frame, length) == 0 && out[length] == 0xEE, what);
+}
+
+static void checks(void)
+{
+    expect(quimdoral_header_check((const uint8_t *)"123456789", 9) == 0x2C, "header check");
+    expect(quimdoral_payload_check((const uint8_t *)"123456789", 9) == 0x199, "payload check");
+}
+
+static void reading(void)
+{
+    static const uint64_t of_c[] = {1, 0, 1, 1, 1, 1, 0, 9};
+    uint64_t said[] = {9, 9, 9, 9, 9, 9, 9, 9};
+    uint16_t list[] = {9, 9};
+
+    expect(quimdoral_read_frame(c, sizeof c, said, 6) == QUIMDORAL_NO_ROOM && said[0] == 9, "no room for what a frame says");
+    expect(quimdoral_read_frame(c, sizeof c, said, 8) == 0 && memcmp(said, of_c, sizeof said) == 0, "what C says");
+    expect(quimdoral_read_frame(b, sizeof b, said, 8) == 0 && said[QUIMDORAL_SAID_KIND] == 2 && said[QUIMDORAL_SAID_PAYLOAD] == 1, "what B says");
+    expect(quimdoral_read_frame(b, 10, said, 8) == QUIMDORAL_TOO_SHORT, "B cut short");
+    expect(quimdoral_read_lengths(d, sizeof d, list, 0) == QUIMDORAL_NO_ROOM && list[0] == 9, "no room for lengths");
+    expect(quimdoral_read_lengths(d, sizeof d, list, 2) == 256 && list[0] == 1 && list[1] == 9, "the lengths of D");
+    expect(quimdoral_read_lengths(a, sizeof a, list, 2) == 0, "the lengths of A");
+}
+
+static void writing(void)
+{
+    uint8_t out[32];
+
+    memset(out, 0xEE, sizeof out);
+    expect(quimdoral_write_data(60000, 0, 0, payload, 1, out, sizeof out) == QUIMDORAL_STAMP_TOO_HIGH, "a stamp too high");
+    expect(quimdoral_write_data(0, 65535, 0, payload, 1, out, sizeof out) == QUIMDORAL_COUNTS_IMPOSSIBLE, "a number too high");
+    expect(quimdoral_write_closing(0, 1, 1, 1, 1ull << 40, out, sizeof out) == QUIMDORAL_COUNTS_IMPOSSIBLE, "octets too wide");
+    expect(quimdoral_write_closing_with_lengths(0, 1, 0, 1, 0, lengths, 1, out, sizeof out) == QUIMDORAL_LENGTHS_WRONG, "another sum");
+    expect(quimdoral_write_data(0, 0, 0, payload, 1, out, 11) == QUIMDORAL_NO_ROOM && out[0] == 0xEE, "no room for B");
+    expect_frame(quimdoral_write_data(0, 0, 0, payload, 0, out, sizeof out), out, a, sizeof a, "A written");
+    expect_frame(quimdoral_write_data(0, 0, 0, payload, 1, out, sizeof out), out, b, sizeof b, "B written");
+    expect_frame(quimdoral_write_closing(0, 1, 1, 1, 1, out, sizeof out), out, c, sizeof c, "C written");
+    expect_frame(quimdoral_write_closing_with_lengths(0, 1, 1, 1, 1, lengths, 1, out, sizeof out), out, d, sizeof d, "D written");
+}
+
+static void sending(void)
+{
+    uint64_t state[] = {9, 9, 9, 9, 9, 9, 9};
+    uint64_t other[7];
+    uint8_t out[32];
+
+    memset(out, 0xEE, sizeof out);
+    expect(quimdoral_sender_open(state, 7, 0) == QUIMDORAL_SENDER_DAMAGED && state[0] == 9, "a damaged sender");
+    expect(quimdoral_sender_fresh(state, 5) == QUIMDORAL_NO_ROOM && state[0] == 9, "no room for a sender");
+    expect(quimdoral_sender_fresh(state, 7) == 0 && state[5] == 0 && state[6] == 9, "a fresh sender");
+    expect(quimdoral_sender_data(state, 7, payload, 1, out, sizeof out) == QUIMDORAL_OUT_OF_TURN, "data before opening");
+    expect(quimdoral_sender_open(state, 5, 0) == QUIMDORAL_SENDER_DAMAGED, "a state cut short");
+    expect(quimdoral_sender_open(state, 7, 0) == 0, "opening");
+    expect_frame(quimdoral_sender_data(state, 7, payload, 1, out, sizeof out), out, b, sizeof b, "B sent");
+    memcpy(other, state, sizeof other);
+    expect_frame(quimdoral_sender_close(state, 7, out, sizeof out), out, c, sizeof c, "C sent");
+    expect_frame(quimdoral_sender_close_with_lengths(other, 7, lengths, 1, out, sizeof out), out, d, sizeof d, "D sent");
+    expect(memcmp(state, other, sizeof state) == 0 && state[QUIMDORAL_SENDER_PHASE] == 2, "the state after both closings");
+    expect(state[QUIMDORAL_SENDER_NUMBER] == 0 && state[QUIMDORAL_SENDER_PACKETS] == 1 && state[QUIMDORAL_SENDER_OCTETS] == 1, "its counts");
+    expect(quimdoral_sender_open(state, 7, 0) == QUIMDORAL_STAMP_NOT_LATER, "the same stamp again");
+    expect(quimdoral_sender_new_period(state, 7) == 0 && state[QUIMDORAL_SENDER_PACKETS] == 0, "a new period");
+}
+
+static void records(void)
+{
+    static const uint32_t ends[] = {sizeof b, sizeof b + sizeof c};
+    uint8_t row[sizeof b + sizeof c];
+    uint64_t head[6], far_head[6], figures[7], gap_octets[1];
+    uint8_t marks[2], far_marks[2], numbers[2];
+    uint32_t elapsed[2], far_elapsed[2], firsts[1], counts[1];
+    uint16_t sizes[2], far_sizes[2];
+
+    memcpy(row, b, sizeof b);
+    memcpy(row + sizeof b, c, sizeof c);
+    expect(quimdoral_fresh(7, 3, 0, head, 5, marks, 2, elapsed, 2, sizes, 2) == QUIMDORAL_CAPACITIES_DIFFER, "a head cut short");
+    expect(quimdoral_fresh(7, 3, 0, head, 6, marks, 2, elapsed, 2, sizes, 2) == 0 && head[0] == 7 && head[1] == 3, "a fresh record");
+    expect(quimdoral_hear(head, 6, marks, 2, elapsed, 2, sizes, 2, 3, 7, c, sizeof c) == QUIMDORAL_OTHER_SEQUENCE, "another bearer");
+    expect(quimdoral_hear(head, 6, marks, 2, elapsed, 2, sizes, 2, 7, 3, c, sizeof c) == 0 && head[3] == 1, "C heard");
+    expect(quimdoral_report(head, 6, marks, 2, elapsed, 2, sizes, 2, firsts, 1, counts, 1, gap_octets, 1, figures, 7) == 0, "a report");
+    expect(figures[QUIMDORAL_FIGURE_MISSING] == 1 && firsts[0] == 0 && counts[0] == 1 && gap_octets[0] == 1, "the gap");
+    expect(quimdoral_hear_all(7, 3, 0, far_head, 6, far_marks, 2, far_elapsed, 2, far_sizes, 2, row, sizeof row, ends, 2, numbers, 2) == 0
+           && numbers[0] == 0 && numbers[1] == 0 && far_marks[0] == 1, "B and C heard at once");
+    expect(quimdoral_join(head, 6, marks, 2, elapsed, 2, sizes, 2, far_head, 6, far_marks, 2, far_elapsed, 2, far_sizes, 2) == 0
+           && marks[0] == 1 && sizes[0] == 1, "the join");
+    far_sizes[0] = 0;
+    far_head[QUIMDORAL_HEAD_TOTAL] = 0;
+    expect(quimdoral_join(head, 6, marks, 2, elapsed, 2, sizes, 2, far_head, 6, far_marks, 2, far_elapsed, 2, far_sizes, 2)
+           == QUIMDORAL_CONTRADICTION, "packet 0 contradicts");
+    far_marks[0] = 0;
+    expect(QUIMDORAL_VALUE(quimdoral_join(head, 6, marks, 2, elapsed, 2, sizes, 2, far_head, 6, far_marks, 2, far_elapsed, 2, far_sizes, 2))
+           == QUIMDORAL_CLOSING_NAMED, "the closing contradicts");
+}
+
+static void clock_calls(void)
+{
+    expect(QUIMDORAL_VALUE(quimdoral_due(4294967290u, 10)) == 4, "example I, due");
+    expect(quimdoral_due(0, 60000) == QUIMDORAL_STAMP_TOO_HIGH, "due at no stamp");
+    expect(QUIMDORAL_VALUE(quimdoral_due(4294967295u, 0)) == 4294967295u, "the last tick");
+    expect(QUIMDORAL_VALUE(quimdoral_stamp_of(4, 4294967290u)) == 10, "the stamp of a moment");
+    expect(quimdoral_stamp_of(60000, 0) == QUIMDORAL_PERIOD_OVER, "the period is over");
+    expect(quimdoral_lateness(3, 4) == -1 && quimdoral_lateness(2147483652u, 4) == INT32_MIN, "example I, lateness");
+}
+
+int main(void)
+{
+    checks();
+    reading();
+    writing();
+    sending();
+    records();
+    clock_calls();
+    return wrong;
+}
