@@ -23,7 +23,7 @@ use Rattle.frame.specs.Writing.{writeData, writeClosing, writeLengths}
 use Rattle.reader.specs.Lists.{Lists}
 use Rattle.writer.specs.Promise.{Wrote}
 use Rattle.quimdoral.specs.Answers.{inOne, mostCounted, Writes, ListsInOne}
-use Rattle.quimdoral.proofs.EitherWay.{either-way}
+use Rattle.fields.proofs.Choosing.{tested}
 
 abbrev pub Few : Written → Type 0
 Few w = writtenPaper w .count ≤ mostCounted
@@ -72,20 +72,20 @@ lengths-few ls n e w h =
 pub few-data : (stamp n e l room : ℕ) → Few (writeData stamp n e l room)
 unfolding writeData writtenPaper
 few-data stamp n e l room =
-    either-way Few _ _ (ltb lastStamp stamp) (λ _. omega arith)
+    tested Few _ _ (ltb lastStamp stamp) (λ _. omega arith)
     (λ _.
-    either-way Few _ _ (ltb mostPayload l) (λ _. omega arith)
+    tested Few _ _ (ltb mostPayload l) (λ _. omega arith)
     (λ h.
-    either-way Few _ _ (dataWrong n e) (λ _. omega arith)
-    (λ _. either-way Few _ _ (ltb room (11 + l)) (λ _. omega arith) (λ _. omega (arith, ltb-false mostPayload l h)))))
+    tested Few _ _ (dataWrong n e) (λ _. omega arith)
+    (λ _. tested Few _ _ (ltb room (11 + l)) (λ _. omega arith) (λ _. omega (arith, ltb-false mostPayload l h)))))
 
 pub few-closing : (c : ClosingPdu) (room : ℕ) → Few (writeClosing c room)
 unfolding writeClosing writtenPaper
 few-closing c room =
-    either-way Few _ _ (ltb lastStamp (c .stamp)) (λ _. omega arith)
+    tested Few _ _ (ltb lastStamp (c .stamp)) (λ _. omega arith)
     (λ _.
-    either-way Few _ _ (givenWrong c) (λ _. omega arith)
-    (λ _. either-way Few _ _ (ltb room 18) (λ _. omega arith) (λ _. omega arith)))
+    tested Few _ _ (givenWrong c) (λ _. omega arith)
+    (λ _. tested Few _ _ (ltb room 18) (λ _. omega arith) (λ _. omega arith)))
 
 given-few : (c : ClosingPdu) → givenWrong c ≡ false → c .number .0 ≤ 65535
 unfolding givenWrong tooWide
@@ -97,11 +97,11 @@ given-few c w =
 pub few-lengths : (c : ClosingPdu) (ls : List ℕ) (room : ℕ) → Few (writeLengths c ls room)
 unfolding writeLengths writtenPaper
 few-lengths c ls room =
-    either-way Few _ _ (ltb lastStamp (c .stamp)) (λ _. omega arith)
+    tested Few _ _ (ltb lastStamp (c .stamp)) (λ _. omega arith)
     (λ _.
-    either-way Few _ _ (givenWrong c) (λ _. omega arith)
+    tested Few _ _ (givenWrong c) (λ _. omega arith)
     (λ g.
-    either-way Few _ _ (listWrong ls (c .number .0) (c .elapsed .0)) (λ _. omega arith)
+    tested Few _ _ (listWrong ls (c .number .0) (c .elapsed .0)) (λ _. omega arith)
     (λ h.
-    either-way Few _ _ (ltb room (19 + filled (length ls))) (λ _. omega arith)
+    tested Few _ _ (ltb room (19 + filled (length ls))) (λ _. omega arith)
     (λ _. lengths-few ls (c .number .0) (c .elapsed .0) h (given-few c g)))))

@@ -21,7 +21,7 @@ use Rattle.reception.specs.Joining.{JoinOutcome, capacitiesOff, otherRecord, lo
 use Rattle.reception.proofs.KeptAsHeld.{lists-matched}
 use Rattle.quimdoral.specs.Records.{numbersOf}
 use Rattle.quimdoral.specs.Joins.{joinNumber, joinedHeadAfter, KeepsJoined}
-use Rattle.quimdoral.proofs.EitherWay.{either-way}
+use Rattle.fields.proofs.Choosing.{tested}
 
 -- what a join names has at most 17 bits
 abbrev Small : JoinOutcome → Type 0
@@ -33,18 +33,18 @@ below-capacity a b h = lists-matched (a .marks) (a .elapsed) (a .sizes) (or-fals
 pub named-small : (a b : Kept) → Small (joinRecords a b)
 unfolding joinRecords joinedPaper
 named-small a b =
-    either-way Small _ _ (capacitiesOff a b) (λ _. omega arith)
+    tested Small _ _ (capacitiesOff a b) (λ _. omega arith)
     (λ c.
-    either-way Small _ _ (damagedKept a || damagedKept b) (λ _. omega arith)
+    tested Small _ _ (damagedKept a || damagedKept b) (λ _. omega arith)
     (λ _.
-    either-way Small _ _ (otherRecord a b) (λ _. omega arith)
+    tested Small _ _ (otherRecord a b) (λ _. omega arith)
     (λ _.
-    either-way Small _ _ (ltb (lowest (heldBy a) (heldBy b)) (length (a .marks)))
+    tested Small _ _ (ltb (lowest (heldBy a) (heldBy b)) (length (a .marks)))
     (λ f.
     let p = ltb-true (lowest (heldBy a) (heldBy b)) (length (a .marks)) f in
     let q = below-capacity a b c in
     omega (arith, p, q))
-    (λ _. either-way Small _ _ (ownClosingOff (heldBy a) (heldBy b)) (λ _. omega arith) (λ _. omega arith)))))
+    (λ _. tested Small _ _ (ownClosingOff (heldBy a) (heldBy b)) (λ _. omega arith) (λ _. omega arith)))))
 
 -- so does the number in the answer of a promise that is kept
 pub named-fits : (a b : Kept) (r : Joining) (marks elapsed sizes : List ℕ) (n : ℕ) → Joins (joinRecords a b) r marks elapsed sizes → r .answer ≡ Contradicted n → n ≤ 65536

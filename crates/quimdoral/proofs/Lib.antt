@@ -1,5 +1,4 @@
 pub mod Counted
-pub mod EitherWay
 pub mod JoinsKept
 pub mod RecordsKept
 pub mod ReportsTold

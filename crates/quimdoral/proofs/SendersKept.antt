@@ -33,7 +33,7 @@ use Rattle.quimdoral.specs.Answers.{inOne}
 use Rattle.quimdoral.specs.Records.{widest}
 use Rattle.quimdoral.specs.Senders.{phaseOf, phaseNumber, noState, noSender, senderOf, stateOf, turnedState, sentState, MakesFresh, TurnsState, SendsState}
 use Rattle.quimdoral.proofs.Counted.{Few, lengths-few}
-use Rattle.quimdoral.proofs.EitherWay.{either-way}
+use Rattle.fields.proofs.Choosing.{tested}
 
 -- the phase of each number
 pub phase-fresh : (n : ℕ) → n ≡ 0 → Fresh ≡ phaseOf n
@@ -132,26 +132,26 @@ FewSent t = Few (t .answer)
 pub few-sent : (s : Sender) (l room : ℕ) → FewSent (dataCall s l room)
 unfolding dataCall writtenPaper
 few-sent s l room =
-    either-way FewSent _ _ (damaged s) (λ _. omega arith)
+    tested FewSent _ _ (damaged s) (λ _. omega arith)
     (λ _.
-    either-way FewSent _ _ (not (isOpen (s .phase))) (λ _. omega arith)
+    tested FewSent _ _ (not (isOpen (s .phase))) (λ _. omega arith)
     (λ _.
-    either-way FewSent _ _ (ltb mostPayload l) (λ _. omega arith)
+    tested FewSent _ _ (ltb mostPayload l) (λ _. omega arith)
     (λ h.
-    either-way FewSent _ _ (leb mostInSequence (s .number .0)) (λ _. omega arith)
+    tested FewSent _ _ (leb mostInSequence (s .number .0)) (λ _. omega arith)
     (λ _.
-    either-way FewSent _ _ (leb mostPeriodPackets (s .packets .0)) (λ _. omega arith)
+    tested FewSent _ _ (leb mostPeriodPackets (s .packets .0)) (λ _. omega arith)
     (λ _.
-    either-way FewSent _ _ (ltb mostPeriodOctets (s .octets .0 + l)) (λ _. omega arith)
-    (λ _. either-way FewSent _ _ (ltb room (11 + l)) (λ _. omega arith) (λ _. omega (arith, ltb-false mostPayload l h))))))))
+    tested FewSent _ _ (ltb mostPeriodOctets (s .octets .0 + l)) (λ _. omega arith)
+    (λ _. tested FewSent _ _ (ltb room (11 + l)) (λ _. omega arith) (λ _. omega (arith, ltb-false mostPayload l h))))))))
 
 pub few-closed : (s : Sender) (room : ℕ) → FewSent (closeCall s room)
 unfolding closeCall writtenPaper
 few-closed s room =
-    either-way FewSent _ _ (damaged s) (λ _. omega arith)
+    tested FewSent _ _ (damaged s) (λ _. omega arith)
     (λ _.
-    either-way FewSent _ _ (not (isOpen (s .phase))) (λ _. omega arith)
-    (λ _. either-way FewSent _ _ (ltb room 18) (λ _. omega arith) (λ _. omega arith)))
+    tested FewSent _ _ (not (isOpen (s .phase))) (λ _. omega arith)
+    (λ _. tested FewSent _ _ (ltb room 18) (λ _. omega arith) (λ _. omega arith)))
 
 number-few : (s : Sender) → damaged s ≡ false → s .number .0 ≤ 65535
 unfolding damaged
@@ -162,13 +162,13 @@ number-few s w =
 pub few-closed-with : (s : Sender) (ls : List ℕ) (room : ℕ) → FewSent (closeWithCall s ls room)
 unfolding closeWithCall writtenPaper
 few-closed-with s ls room =
-    either-way FewSent _ _ (damaged s) (λ _. omega arith)
+    tested FewSent _ _ (damaged s) (λ _. omega arith)
     (λ d.
-    either-way FewSent _ _ (not (isOpen (s .phase))) (λ _. omega arith)
+    tested FewSent _ _ (not (isOpen (s .phase))) (λ _. omega arith)
     (λ _.
-    either-way FewSent _ _ (listWrong ls (s .number .0) (s .elapsed .0)) (λ _. omega arith)
+    tested FewSent _ _ (listWrong ls (s .number .0) (s .elapsed .0)) (λ _. omega arith)
     (λ h.
-    either-way FewSent _ _ (ltb room (19 + filled (length ls))) (λ _. omega arith)
+    tested FewSent _ _ (ltb room (19 + filled (length ls))) (λ _. omega arith)
     (λ _. lengths-few ls (s .number .0) (s .elapsed .0) h (number-few s d)))))
 
 -- a list too short for a state, and one that has room
