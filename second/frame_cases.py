@@ -1,0 +1,280 @@
+"""Frames for the crate `second_frames`: good ones at every limit, and refused ones for every cause that reading has.
+
+Each case says what it is meant to be: GOOD, a refusal's number, or UNKNOWN where chance made it. Making stops where reading
+disagrees, so a case cannot quietly show something else.
+"""
+
+from itertools import combinations
+from typing import NamedTuple
+
+import examples
+from sync import (CLOSING, CONTROL_SIZE, DATA, LAST_NUMBER, LAST_STAMP, LENGTHS, LONGEST, control_part, end_closing, join_parts,
+                  lengths_size, pack_lengths)
+
+GOOD, UNKNOWN = 0, None
+MOST_PACKETS = (1 << 24) - 1
+MOST_OCTETS = (1 << 40) - 1
+WRAPS = 1_048_833  # the first count whose octets, at 4,095 each, pass 2^32
+
+
+class Case(NamedTuple):
+    frame: bytes
+    meant: int
+
+
+# Frames with right checks, whatever their fields say
+
+
+def closing(stamp, packets, octets, totals, spare=0, padding=0):
+    return end_closing(control_part(CLOSING, stamp, packets, octets, totals, spare), padding)
+
+
+def data(stamp, number, elapsed, payload, spare=0):
+    return join_parts(control_part(DATA, stamp, number, elapsed, None, spare), payload)
+
+
+def listing(stamp, lengths, totals=None, spare=0, padding=0, extension=b"", octets=None):
+    """A Type 3 frame. Where nothing else is given, its octets are the sum and its sequence is the period's first."""
+    octets = sum(lengths) if octets is None else octets
+    totals = (len(lengths), octets) if totals is None else totals
+    control = control_part(LENGTHS, stamp, len(lengths), octets, totals, spare)
+    return join_parts(control, pack_lengths(lengths, padding) + extension)
+
+
+def flipped(frame, bit):
+    """The frame with one bit turned, counted from the first octet's highest."""
+    octets = bytearray(frame)
+    octets[bit // 8] ^= 0x80 >> bit % 8
+    return bytes(octets)
+
+
+# Good frames
+
+
+def bench(draw):
+    good = (examples.A, examples.B, examples.C, examples.D, examples.E, data(0, 0, 0, examples.J))
+    yield from (Case(frame, GOOD) for frame in good)
+    yield Case(examples.D_PRINTED, 7)
+    yield from (Case(frame, number) for frame, number in examples.F)
+    yield Case(data(0, 0, 0, examples.J + b"\x00"), 6)  # what cannot be written is not read either
+
+
+def good_closings(draw):
+    for stamp in (0, 1, 255, 256, 59_998, LAST_STAMP):
+        yield Case(closing(stamp, 0, 0, (0, 0)), GOOD)
+    for packets in (1, 2, 255, 256, 4_096, 65_534, 65_535):
+        for octets in (0, 1, LONGEST * packets - 1, LONGEST * packets):
+            yield Case(closing(draw.below(60_000), packets, octets, (packets, octets)), GOOD)
+    for more in (1, 255, 256, 65_536, WRAPS - 1, WRAPS, MOST_PACKETS - 7):
+        for octets in (0, 4_000, LONGEST * more - 1, LONGEST * more):
+            if octets <= LONGEST * more:
+                yield Case(closing(draw.below(60_000), 7, 100, (7 + more, 100 + octets)), GOOD)
+    yield Case(closing(LAST_STAMP, 65_535, LONGEST * 65_535, (MOST_PACKETS, LONGEST * MOST_PACKETS)), GOOD)
+    yield Case(closing(1, 0, 0, (MOST_PACKETS, 1 << 32)), GOOD)
+
+
+def good_data(draw):
+    for stamp in (0, 1, 255, 256, 59_998, LAST_STAMP):
+        yield Case(data(stamp, 0, 0, b"\x00"), GOOD)
+    for number in (1, 2, 255, 256, 32_768, LAST_NUMBER):
+        for elapsed in (0, 1, LONGEST * number - 1, LONGEST * number):
+            yield Case(data(draw.below(60_000), number, elapsed, draw.octets(draw.below(4))), GOOD)
+    for size in (1, 2, 3, 7, 8, 9, 62, 63, 64, 65, 127, 128, 129, 255, 256, 1_024, 2_048, LONGEST - 1, LONGEST):
+        yield Case(data(draw.below(60_000), 3, 2 * size, draw.octets(size)), GOOD)
+    for octet in (0x00, 0xFF, 0x80, 0x01):
+        yield Case(data(draw.below(60_000), 1, LONGEST, bytes([octet]) * 200), GOOD)
+    yield Case(data(LAST_STAMP, LAST_NUMBER, LONGEST * LAST_NUMBER, b"\xFF" * LONGEST), GOOD)
+
+
+def good_listings(draw):
+    for count in (0, 1, 2, 3, 4, 5, 6, 7, 16, 17, 255, 256, 1_001):
+        yield Case(listing(draw.below(60_000), [draw.below(LONGEST + 1) for _ in range(count)]), GOOD)
+    for count in (1, 2, 3, 8, 9):
+        for length in (0, 1, LONGEST):
+            totals = (MOST_PACKETS, count * length + LONGEST * (MOST_PACKETS - count))
+            yield Case(listing(draw.below(60_000), [length] * count, totals), GOOD)
+    for size in range(5):
+        for count in (0, 1, 2, 3):
+            lengths = [draw.below(LONGEST + 1) for _ in range(count)]
+            yield Case(listing(draw.below(60_000), lengths, extension=draw.octets(size)), GOOD)
+    for count in (4_096, 4_097):
+        yield Case(listing(LAST_STAMP, [draw.below(10) for _ in range(count)]), GOOD)
+
+
+def unjudged_bits(draw):
+    """Spare bits and padding are not judged, but the checks cover them."""
+    for spare in range(1, 16):
+        stamp = draw.below(60_000)
+        yield Case(closing(stamp, 1, 9, (2, 9), spare, spare % 4), GOOD)
+        yield Case(data(stamp, 1, 9, draw.octets(spare), spare), GOOD)
+        yield Case(listing(stamp, [1, 2, spare], None, spare, spare, bytes(spare % 5)), GOOD)
+        # The check of the frame without its spare bits is a wrong one.
+        for frame in (closing(stamp, 1, 9, (2, 9)), data(stamp, 1, 9, b"\x05"), listing(stamp, [spare])):
+            if spare in (1, 8, 15):
+                yield Case(bytes([frame[0] | spare]) + frame[1:], 4)
+    for padding in (1, 2, 3):
+        yield Case(closing(0, 0, 0, (0, 0), 0, padding), GOOD)
+
+
+def drawn(draw):
+    """Frames as a sender might send them."""
+    for _ in range(20):
+        lengths = [draw.below(LONGEST + 1) for _ in range(draw.below(20))]
+        more = draw.below(1_000)
+        totals = (len(lengths) + more, sum(lengths) + draw.below(LONGEST * more + 1))
+        yield Case(listing(draw.below(60_000), lengths, totals), GOOD)
+        yield Case(closing(draw.below(60_000), len(lengths), sum(lengths), totals), GOOD)
+        number = draw.below(LAST_NUMBER + 1)
+        yield Case(data(draw.below(60_000), number, draw.below(LONGEST * number + 1), draw.octets(draw.below(120))), GOOD)
+
+
+# Refused frames
+
+
+def too_short(draw):
+    """Refusal 1, whatever the octets say."""
+    yield Case(b"", 1)
+    whole = (closing(5, 1, 1, (1, 1)), data(5, 1, 1, b""), listing(5, []))
+    for frame in whole:
+        for size in (1, 2, len(frame) // 2, len(frame) - 1):
+            yield Case(frame[:size], 1)
+        yield Case(frame[:1] + b"\xFF" * (len(frame) - 2), 1)
+    yield Case(closing(0, 0, 0, (0, 0))[:11], 1)  # long enough for Type 1 only
+    yield Case(b"\x30" + closing(0, 0, 0, (0, 0))[1:], 1)  # long enough for Type 0 only
+
+
+def other_types(draw):
+    """Refusals 2 and 3 come before a size that is too short."""
+    for spare in (0, 1, 15):
+        yield Case(bytes([0x20 | spare]), 2)
+        yield Case(bytes([0x20 | spare]) + draw.octets(40), 2)
+    for kind in range(4, 16):
+        yield Case(bytes([kind << 4 | draw.below(16)]), 3)
+        yield Case(bytes([kind << 4]) + draw.octets(draw.between(17, 60)), 3)
+
+
+def header_wrong(draw):
+    """One turned bit of the control part or of its check. The first four would make another type."""
+    for frame in (closing(7, 2, 9, (2, 9)), data(7, 2, 9, b"\x01\x02"), listing(7, [4, 5])):
+        bits = 8 * CONTROL_SIZE[frame[0] >> 4] + 6
+        for bit in (4, 7, 8, 23, 24, 39, 40, 71, bits - 6, bits - 1):
+            yield Case(flipped(frame, bit), 4)
+
+
+def stamp_wrong(draw):
+    for stamp in (60_000, 60_001, 65_535):
+        yield Case(closing(stamp, 0, 0, (0, 0)), 5)
+        yield Case(data(stamp, 0, 0, b"\x07"), 5)
+        yield Case(listing(stamp, [1]), 5)
+
+
+def size_wrong(draw):
+    for more in (1, 2, 4, 100):
+        yield Case(closing(9, 1, 1, (1, 1)) + bytes(more), 6)
+    for size in (LONGEST + 1, LONGEST + 5, 8_181):
+        yield Case(data(9, 0, 0, draw.octets(size)), 6)
+    for count in (1, 2, 5, 6):
+        lengths = [draw.below(LONGEST + 1) for _ in range(count)]
+        control = control_part(LENGTHS, 9, count, sum(lengths), (count, sum(lengths)))
+        part = pack_lengths(lengths)
+        for wrong in (b"", part[:-1], part + bytes(5), part + draw.octets(6), part + bytes(100)):
+            yield Case(join_parts(control, wrong), 6)
+    yield Case(join_parts(control_part(LENGTHS, 9, 0, 0, (0, 0)), bytes(5)), 6)
+    # Sizes that a narrow sum would take for right: 1.5 N or 12 N starts over at 2^16.
+    for count, size in ((43_692, 2), (5_462, 1), (43_691, 1), (65_535, 2), (65_535, 6_000)):
+        yield Case(join_parts(control_part(LENGTHS, 9, count, 0, (count, 0)), bytes(size)), 6)
+
+
+def payload_wrong(draw):
+    frame = data(11, 1, 3, b"\x10\x20\x30")
+    for bit in (78, 79, 80, 87, 88, 95, 111):  # bits 78 to 87 are the check itself
+        yield Case(flipped(frame, bit), 7)
+    frame = listing(11, [1, 2, 3], extension=b"\x00\x01")
+    for bit in (142, 143, 144, 151, 152, 187, 188, 191, 192, 207):  # lengths, padding and extension are covered
+        yield Case(flipped(frame, bit), 7)
+    yield Case(flipped(data(11, 0, 0, b""), 87), 7)
+    yield Case(flipped(listing(11, []), 151), 7)
+    yield Case(data(11, 1, 0, bytes(10))[:-1] + b"\x80", 7)
+
+
+def data_counts(draw):
+    for number, elapsed in ((65_535, 0), (65_535, LONGEST * 65_535), (0, 1), (1, LONGEST + 1), (2, 2 * LONGEST + 1),
+                            (LAST_NUMBER, LONGEST * LAST_NUMBER + 1), (0, (1 << 32) - 1), (LAST_NUMBER, (1 << 32) - 1)):
+        yield Case(data(13, number, elapsed, b"\x44"), 8)
+
+
+def closing_counts(draw):
+    for packets, octets, totals in (
+            (0, 1, (0, 1)), (0, 1, (1, 1)), (1, LONGEST + 1, (1, LONGEST + 1)), (1, LONGEST + 1, (2, LONGEST + 1)),
+            (65_535, LONGEST * 65_535 + 1, (MOST_PACKETS, LONGEST * 65_535 + 1)), (65_535, (1 << 32) - 1, (MOST_PACKETS, 1 << 32)),
+            (1, 0, (0, 0)), (65_535, 0, (65_534, 0)), (256, 5, (255, 5)), (2, 5, (2, 4)), (2, 5, (3, 0)), (2, 5, (2, 6)),
+            (2, 5, (3, 5 + LONGEST + 1)), (0, 0, (0, 1)), (0, 0, (1, LONGEST + 1)), (0, 0, (0, MOST_OCTETS)),
+            (0, 0, (MOST_PACKETS, LONGEST * MOST_PACKETS + 1)), (0, 0, (MOST_PACKETS, MOST_OCTETS)), (0, 0, (1, 1 << 32)),
+            (0, 0, (WRAPS, LONGEST * WRAPS + 1)), (0, 0, (1, 1 << 39)), (65_535, 1, (MOST_PACKETS, 0))):
+        yield Case(closing(13, packets, octets, totals), 8)
+
+
+def listing_counts(draw):
+    for lengths, octets in (([0], 1), ([1], 0), ([1, 2], 2), ([1, 2], 4), ([LONGEST, 1], LONGEST), ([0, 0, 9], 10), ([16], 1), ([], 1),
+                            ([LONGEST], LONGEST + 1)):
+        yield Case(listing(13, lengths, (9, 9 + octets), octets=octets), 8)
+    yield Case(listing(13, [5], (0, 5)), 8)
+    yield Case(listing(13, [5], (1, 4)), 8)
+    yield Case(listing(13, [5], (1, 6)), 8)
+    yield Case(listing(13, [5, 6], (3, 11 + LONGEST + 1)), 8)
+    yield Case(listing(13, [], (MOST_PACKETS, MOST_OCTETS)), 8)
+    yield Case(listing(13, [3], octets=10, padding=7), 8)  # padding is no part of a length
+    yield Case(listing(13, [3, 3], octets=10, extension=b"\x00\x40"), 8)  # nor is the extension
+
+
+# Several causes at once: the order decides
+
+
+def with_causes(kind, causes, draw):
+    """A frame with exactly these of the causes 4 to 8, its checks right otherwise."""
+    stamp = draw.between(60_000, 65_535) if 5 in causes else draw.below(60_000)
+    lengths = [draw.below(50) for _ in range(draw.between(1, 6))]
+    count, octets = len(lengths), sum(lengths)
+    if 8 in causes:
+        octets = LONGEST * count + 1
+    if kind == CLOSING:
+        frame = closing(stamp, count, octets, (count, octets)) + bytes(6 in causes)
+    elif kind == DATA:
+        frame = data(stamp, count, octets, draw.octets(LONGEST + 1 if 6 in causes else 30))
+    else:
+        extension = draw.octets(draw.below(5)) if 6 not in causes else bytes(5)
+        frame = listing(stamp, lengths, octets=octets, extension=extension)
+    header_ends = 8 * CONTROL_SIZE[kind] + 6
+    if 7 in causes:
+        frame = flipped(frame, header_ends + draw.below(10))
+    if 4 in causes:
+        frame = flipped(frame, header_ends - 1 - draw.below(6))
+    return frame
+
+
+def several_causes(draw):
+    for kind, possible in ((CLOSING, (4, 5, 6, 8)), (DATA, (4, 5, 6, 7, 8)), (LENGTHS, (4, 5, 6, 7, 8))):
+        for size in range(2, len(possible) + 1):
+            for causes in combinations(possible, size):
+                yield Case(with_causes(kind, causes, draw), min(causes))
+
+
+def hostile(draw):
+    """Octets by chance behind a header check that is right, so that reading goes further than the check."""
+    for _ in range(30):
+        kind = draw.pick((CLOSING, DATA, LENGTHS))
+        totals = None if kind == DATA else (draw.below(1 << 24), draw.below(1 << 40))
+        number = draw.pick((draw.below(8), draw.below(65_536)))
+        control = control_part(kind, draw.below(65_536), number, draw.below(1 << draw.between(1, 32)), totals, draw.below(16))
+        part = draw.octets(lengths_size(number % 8) + draw.below(6))
+        frame = end_closing(control) if kind == CLOSING else join_parts(control, part)
+        yield Case(flipped(frame, draw.below(8 * len(frame))) if draw.chance(4) else frame, UNKNOWN)
+
+
+def all_cases(draw):
+    """Every case, each group after the other."""
+    groups = (bench, good_closings, good_data, good_listings, unjudged_bits, drawn, too_short, other_types, header_wrong, stamp_wrong,
+              size_wrong, payload_wrong, data_counts, closing_counts, listing_counts, several_causes, hostile)
+    for group in groups:
+        for place, case in enumerate(group(draw)):
+            yield f"{group.__name__} {place}", case

@@ -1,0 +1,72 @@
+"""Makes the stored frames and accounts anew: `python3 second/make.py OUTDIR`.
+
+Writes frames.bin and frames.txt, accounts/NN.items and accounts/NN.txt, and accounts/names, which says what each account is about.
+The seeds are fixed, so every run makes the same octets.
+"""
+
+import sys
+from pathlib import Path
+
+import account
+import account_cases
+import frame_cases
+import sync
+from draw import Draw
+
+FRAME_SEED, ACCOUNT_SEED = 25_446, 36_300
+
+
+def described(frame):
+    """The line that stands for one frame, and the number of its refusal or 0."""
+    try:
+        said = sync.read(frame)
+    except sync.Refused as refused:
+        return account.line("refused", refused.number), refused.number
+    if isinstance(said, sync.Closing):
+        return account.line("closing", *said), 0
+    if isinstance(said, sync.Data):
+        return account.line("data", said.stamp, said.number, said.elapsed, len(said.payload)), 0
+    return account.line("lengths", *said[:5], *said.lengths), 0
+
+
+def make_frames(folder):
+    octets, lines = b"", []
+    for name, case in frame_cases.all_cases(Draw(FRAME_SEED)):
+        line, number = described(case.frame)
+        if case.meant not in (number, frame_cases.UNKNOWN):
+            raise SystemExit(f"make: frame {name} was meant to give {case.meant} and gives {number}")
+        octets += len(case.frame).to_bytes(2, "little") + case.frame
+        lines.append(line)
+    (folder / "frames.bin").write_bytes(octets)
+    (folder / "frames.txt").write_text(account.text(lines))
+    return len(lines)
+
+
+def make_accounts(folder):
+    folder.mkdir(exist_ok=True)
+    names = []
+    for case in account_cases.all_accounts(Draw(ACCOUNT_SEED)):
+        text = account.printed(case.items)
+        numbers = [int(line.split()[2]) for line in text.splitlines() if line.startswith("refused")]
+        if case.refusals is not account_cases.UNKNOWN and list(case.refusals) != numbers:
+            raise SystemExit(f"make: account {case.name!r} was meant to refuse with {case.refusals} and refuses with {numbers}")
+        place = f"{len(names):02}"
+        (folder / f"{place}.items").write_bytes(case.items)
+        (folder / f"{place}.txt").write_text(text)
+        names.append(account.line(place, case.name))
+    (folder / "names").write_text(account.text(names))
+    return len(names)
+
+
+def main():
+    if len(sys.argv) != 2:
+        raise SystemExit("usage: python3 second/make.py OUTDIR")
+    folder = Path(sys.argv[1])
+    folder.mkdir(parents=True, exist_ok=True)
+    frames = make_frames(folder)
+    accounts = make_accounts(folder / "accounts")
+    print(f"make: {frames} frames, {accounts} accounts")
+
+
+if __name__ == "__main__":
+    main()
