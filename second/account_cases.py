@@ -143,7 +143,7 @@ def bad_input(draw):
 
 def mixtures(draw):
     for place in range(8):
-        yield Case(f"mixture {place}", mixture(draw, 8), UNKNOWN)
+        yield Case(f"mixture {place}", mixture(draw, 40), UNKNOWN)
 
 
 def all_accounts(draw):

@@ -47,19 +47,19 @@ class Sending:
     def before(self, number):
         return sum(self.lengths[:number])
 
-    def places(self):
-        """Packet numbers, near the begin or the end."""
+    def place(self):
+        """A packet number, most often near the beginning or the end."""
         near = self.draw.below(self.count) if self.draw.chance(2) else self.count - 1 - self.draw.below(min(self.count, 6))
         return near if self.draw.chance(2) else min(near, self.draw.below(6))
 
     def true_frame(self):
         if self.count == 0 or self.draw.chance(8):
             total = sum(self.lengths)
-            maker = self.draw.pick((0, 0, 1)) if self.count < 200 or self.draw.chance(6) else 0
-            if maker:
+            # Many lengths make a long frame, so such a frame is rarer.
+            if self.draw.chance(3 if self.count < 200 else 18):
                 return listing(self.stamp, self.lengths)
             return closing(self.stamp, self.count, total, (self.count, total))
-        number = self.places()
+        number = self.place()
         return data(self.stamp, number, self.before(number), self.draw.octets(self.lengths[number]))
 
     def near_frame(self):
@@ -70,7 +70,7 @@ class Sending:
             count = max(0, self.count + draw.pick((-1, 0, 1)))
             octets = max(0, sum(self.lengths) + draw.pick((little, LONGEST * (count - self.count) + little)))
             return closing(self.stamp, count, octets, (count, octets))
-        last, number = sorted((self.places(), self.places()))
+        last, number = sorted((self.place(), self.place()))
         end = self.before(last + 1)
         elapsed = draw.pick((end, end + LONGEST * (number - last - 1), self.before(number))) + little
         length = max(0, self.lengths[number] + draw.pick((-1, 0, 0, 1)))
