@@ -16,30 +16,54 @@ from draw import Draw
 FRAME_SEED, ACCOUNT_SEED = 25_446, 36_300
 
 
+def said_line(said):
+    """The line that stands for what a good frame says."""
+    if isinstance(said, sync.Closing):
+        return account.line("closing", *said)
+    if isinstance(said, sync.Data):
+        return account.line("data", said.stamp, said.number, said.elapsed, len(said.payload))
+    return account.line("lengths", *said[:5], *said.lengths)
+
+
+def nothing_unjudged(frame, said):
+    """Whether a good frame has no bit set that reading does not judge, and no extension: only then writing gives it again."""
+    if frame[0] & 0x0F:
+        return False
+    if isinstance(said, sync.Closing):
+        return frame[-1] & 0x03 == 0
+    if isinstance(said, sync.Data):
+        return True
+    size = sync.LEAST_SIZE[sync.LENGTHS] + sync.lengths_size(said.packets)
+    return len(frame) == size and (said.packets % 2 == 0 or frame[-1] & 0x0F == 0)
+
+
 def described(frame):
-    """The line that stands for one frame, and the number of its refusal or 0."""
+    """The lines that stand for one frame, the number of its refusal or 0, and whether writing gives the same octets again."""
     try:
         said = sync.read(frame)
     except sync.Refused as refused:
-        return account.line("refused", refused.number), refused.number
-    if isinstance(said, sync.Closing):
-        return account.line("closing", *said), 0
-    if isinstance(said, sync.Data):
-        return account.line("data", said.stamp, said.number, said.elapsed, len(said.payload)), 0
-    return account.line("lengths", *said[:5], *said.lengths), 0
+        return [account.line("refused", refused.number)], refused.number, False
+    written = sync.write(said)
+    same = written == frame
+    if same != nothing_unjudged(frame, said):
+        raise SystemExit(f"make: frame {frame.hex()} is written again as {written.hex()}")
+    return [said_line(said)] + ([] if same else [account.line("written", *written)]), 0, same
 
 
 def make_frames(folder):
-    octets, lines = b"", []
+    octets, lines, frames, again = b"", [], 0, 0
     for name, case in frame_cases.all_cases(Draw(FRAME_SEED)):
-        line, number = described(case.frame)
+        told, number, same = described(case.frame)
         if case.meant not in (number, frame_cases.UNKNOWN):
             raise SystemExit(f"make: frame {name} was meant to give {case.meant} and gives {number}")
         octets += len(case.frame).to_bytes(2, "little") + case.frame
-        lines.append(line)
+        lines += told
+        frames += 1
+        again += same
+    lines.append(account.line("again", again))
     (folder / "frames.bin").write_bytes(octets)
     (folder / "frames.txt").write_text(account.text(lines))
-    return len(lines)
+    return frames
 
 
 def make_accounts(folder):

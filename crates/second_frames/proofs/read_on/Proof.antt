@@ -1,0 +1,42 @@
+-- `second_frames::read_on` meets its contract. Assumes nothing.
+use mathlib.Core.Path.{sym}
+use lib.Seq.{length-take-le}
+use Prim.Native.Nat.{_+_, _≤_}
+use lib.ListN.{length}
+use native.Mathlib.Omega.{arith}
+use borrow.Author.Needs.{needs}
+use Rattle.second_frames.proofs.read_on.Statement.{statement}
+use Rattle.second_frames.proofs.read_on.Tie as tie
+
+sub-behind : tie.Need-sub-behind
+sub-behind c = search needs
+
+part-behind-start : tie.Need-part-behind-start
+part-behind-start c = search needs
+
+part-behind-end : tie.Need-part-behind-end
+part-behind-end c = search needs
+
+read-full-requires : tie.Need-read-full-requires
+read-full-requires c κs = search needs
+
+add-result : tie.Need-add-result
+add-result c = search needs
+
+same-length : tie.Need-same-length
+same-length c = search needs
+
+returns : tie.Need-returns
+returns c = let h : c .before .before .before .before .before .args .have + c .before .before .read-full .result ≤ length (c .before .before .before .before .before .args .input .now) = omega arith in (search needs, sym (length-take-le _ _ (search needs)))
+
+pub read-on-spec : {M : Type 1} → statement M
+read-on-spec =
+    tie.close
+    (tie.spec
+    sub-behind
+    part-behind-start
+    part-behind-end
+    read-full-requires
+    add-result
+    same-length
+    returns)
