@@ -1,0 +1,3 @@
+pub mod EachFixed
+pub mod NoneOfThem
+pub mod OneTable
