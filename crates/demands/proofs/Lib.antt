@@ -1,3 +1,10 @@
+pub mod AcceptedAgain
 pub mod EachFixed
+pub mod HeardJoinedReported
 pub mod NoneOfThem
+pub mod NumbersAndMemory
 pub mod OneTable
+pub mod ReadAndWritten
+pub mod RecordRefusals
+pub mod Refusals
+pub mod SenderRefusals

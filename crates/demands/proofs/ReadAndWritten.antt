@@ -1,0 +1,155 @@
+-- Demand 2 holds. Assumes nothing.
+use Prim.Native.Nat.{ℕ, zero, suc, _+_, _%_, _≤_}
+use native.Mathlib.Omega.{arith}
+use mathlib.Core.Path.{_≡_, refl, sym, ap, subst, _∙_}
+use mathlib.Core.Bool.{false, not}
+use mathlib.Core.List.{List}
+use lib.Dec.{ltb, eqb}
+use lib.ListN.{length, getD, take, drop}
+use borrow.Author.Tests.{eqb-true, not-false}
+use Rattle.units.specs.Limits.{lastStamp, mostPayload}
+use Rattle.units.specs.Refusals.{stampTooHigh, payloadTooLong, countsImpossible, noRoom}
+use Rattle.fields.specs.Numbers.{octets}
+use Rattle.fields.specs.Runs.{front}
+use Rattle.fields.proofs.Choosing.{past}
+use Rattle.fields.proofs.Laying.{take-front}
+use Rattle.fields.proofs.Tests.{or-false}
+use Rattle.checks.specs.Check.{headerCheck, payloadCheck}
+use Rattle.frame.specs.declared.ClosingPdu.{ClosingPdu}
+use Rattle.frame.specs.declared.DataPdu.{DataPdu}
+use Rattle.frame.specs.declared.Read.{Read}
+use Rattle.frame.specs.declared.Read.the-variants.{Closing, Data, ClosingWithLengths}
+use Rattle.frame.specs.declared.Written.{Written}
+use Rattle.frame.specs.declared.Written.the-variants.{Done}
+use Rattle.frame.specs.Counts.{dataWrong, closingWrong, lengthsWrong}
+use Rattle.frame.specs.Layout.{typeOf, control, headerCheckIn, payloadCheckIn, payloadPart, filled, sumLengths, lengthsOf, closingOf}
+use Rattle.frame.specs.Paper.{readPaper, writtenPaper}
+use Rattle.frame.specs.Reading.{refuse, checkWrong, countsWrong, said, readFrame}
+use Rattle.frame.specs.Writing.{refuseWrite, writeData, writeClosing, writeLengths, dataFrame, closingFrame, lengthsFrame, after}
+use Rattle.frame.proofs.Accepted.{Good, good-read, read-closing, read-with-lengths}
+use Rattle.frame.proofs.OnePaper.{read-known, written-known}
+use Rattle.frame.proofs.Said.{data-said, closing-said, lengths-said}
+use Rattle.frame.proofs.WhatWentIn.{data-length, data-went-in, closing-went-in, lengths-went-in}
+use Rattle.frame.proofs.WrittenAgain.{Plain, data-again, closing-again, lengths-again}
+use Rattle.writer.specs.Promise.{Wrote}
+use Rattle.demands.specs.Demand2.{ReadAs, BothChecks, SpareZero, Demand2}
+use Rattle.demands.proofs.AcceptedAgain.{lengths-long, data-writable, closing-writable, lengths-writable, list-writable}
+
+-- an accepted answer is no refusal
+not-refused : (r : Read) → (readPaper r .kind ≡ 0 → ⊥) → (n : ℕ) → refuse n ≡ r → ⊥
+unfolding readPaper
+not-refused r h n e = h (sym (ap (λ (x : Read). readPaper x .kind) e))
+
+equal : (a b : ℕ) → not (eqb a b) ≡ false → a ≡ b
+equal a b e = eqb-true a b (not-false (eqb a b) e)
+
+payload-right : (t : ℕ) (s : List ℕ) → checkWrong t s ≡ false → (t ≡ 0 → ⊥) → payloadCheck (payloadPart (control t) s) ≡ payloadCheckIn (control t) s
+payload-right zero s e h = absurd (h refl)
+payload-right (suc zero) s e h = equal _ _ e
+payload-right (suc (suc t)) s e h = equal _ _ e
+
+checked : (s : List ℕ) (r : Read) → ReadAs s r → (readPaper r .kind ≡ 0 → ⊥) → BothChecks s × (r ≡ said (typeOf s) s)
+checked s r e h =
+    let g = good-read s r (not-refused r h) (sym (read-known r (readFrame s) e)) in (
+      record { header = equal _ _ (g .0 .headed); payload = payload-right (typeOf s) s (g .0 .checked) },
+      sym (g .1),
+    )
+
+-- what an accepted writing leaves
+module _ (a : Written) (frame old : List ℕ) (k : ℕ) (new : List ℕ) (w : Wrote a frame old (Done k) new) where
+  done-is : a ≡ Done k
+  done-is = sym (written-known (Done k) a (w .says))
+
+  left-is : new ≡ after (Done k) frame old
+  left-is = w .leaves ∙ ap (λ (x : Written). after x frame old) done-is
+
+read-of : (s t : List ℕ) (r x : Read) → ReadAs s r → s ≡ t → readFrame t ≡ x → r ≡ x
+read-of s t r x e q h = read-known r (readFrame s) e ∙ ap readFrame q ∙ h
+
+-- the payload of a data PDU that was written
+no-refusal : (k n : ℕ) → refuseWrite n ≡ Done k → ⊥
+unfolding writtenPaper
+no-refusal k n e = let z : _≡_ {A = ℕ} 0 1 = ap (λ (x : Written). writtenPaper x .accepted) e in absurd (omega (arith, z))
+
+size-of : (stamp n e l room k : ℕ) → writeData stamp n e l room ≡ Done k → 11 + l ≡ k
+unfolding writeData writtenPaper
+size-of stamp n e l room k h =
+    let p1 = past (refuseWrite stampTooHigh) _ (Done k) (ltb lastStamp stamp) (no-refusal k stampTooHigh) h in
+    let p2 = past (refuseWrite payloadTooLong) _ (Done k) (ltb mostPayload l) (no-refusal k payloadTooLong) (p1 .1) in
+    let p3 = past (refuseWrite countsImpossible) _ (Done k) (dataWrong n e) (no-refusal k countsImpossible) (p2 .1) in
+    let p4 = past (refuseWrite noRoom) (Done (11 + l)) (Done k) (ltb room (11 + l)) (no-refusal k noRoom) (p3 .1) in
+    ap (λ (x : Written). writtenPaper x .count) (p4 .1)
+
+payload-is : (stamp n e : ℕ) (p : List ℕ) → drop 11 (dataFrame stamp n e p) ≡ p
+unfolding octets dataFrame
+payload-is stamp n e p = refl
+
+payload-there : (stamp n e : ℕ) (p old : List ℕ) (k : ℕ) → 11 + length p ≡ k → drop 11 (take k (after (Done k) (dataFrame stamp n e p) old)) ≡ p
+unfolding after
+payload-there stamp n e p old k z =
+    ap (drop 11) (take-front old (dataFrame stamp n e p) k (data-length stamp n e p ∙ z)) ∙ payload-is stamp n e p
+
+-- what writing again leaves
+again : (a : Written) (frame old : List ℕ) (k : ℕ) (r : Written) (new s : List ℕ) → Wrote a frame old r new → a ≡ Done k → k ≡ length s → frame ≡ s
+    → (r ≡ Done (length s)) × (new ≡ front old s)
+unfolding after
+again a frame old k r new s w e n f = (
+  written-known r a (w .says) ∙ e ∙ ap Done n,
+  w .leaves ∙ ap (λ (x : Written). after x frame old) e ∙ ap (front old) f,
+)
+
+plain : (s : List ℕ) → SpareZero s → Plain s
+plain s z = record { octet = z .octet; spare = z .spare }
+
+read-as : (s : List ℕ) (x : Read) → ReadAs s x → readFrame s ≡ x
+read-as s x e = sym (read-known x (readFrame s) e)
+
+closing-again-written : (s : List ℕ) (c : ClosingPdu) (old : List ℕ) (r : Written) (new : List ℕ) → SpareZero s → getD s 17 0 % 4 ≡ 0
+    → ReadAs s (Closing c) → length s ≤ length old → Wrote (writeClosing c (length old)) (closingFrame c) old r new → (r ≡ Done (length s)) × (new ≡ front old s)
+closing-again-written s c old r new z pad e fits w =
+    let x = read-as s (Closing c) e in
+    let g = read-closing s c x in
+    let l : length s ≡ 18 = equal (length s) 18 (rw (g .1) at (g .0 .sized)) in
+    let right : closingWrong c ≡ false = subst (λ (y : ClosingPdu). closingWrong y ≡ false) (g .2) (rw (g .1) at (g .0 .counted)) in
+    again _ _ old 18 r new s w (closing-writable s c (z .octet) (closing-said s c (z .octet) x) right (length old) (omega (arith, l, fits))) (sym l)
+    (closing-again s c (plain s z) pad x)
+
+lengths-again-written : (s : List ℕ) (c : ClosingPdu) (old : List ℕ) (r : Written) (new : List ℕ) → SpareZero s → length s ≡ 19 + filled (c .number .0)
+    → (c .number .0 % 2 ≡ 1 → getD s (18 + filled (c .number .0)) 0 % 16 ≡ 0) → ReadAs s (ClosingWithLengths c) → length s ≤ length old
+    → Wrote (writeLengths c (lengthsOf s 0 (c .number .0)) (length old)) (lengthsFrame c (lengthsOf s 0 (c .number .0))) old r new
+    → (r ≡ Done (length s)) × (new ≡ front old s)
+unfolding lengthsWrong
+lengths-again-written s c old r new z l pad e fits w =
+    let x = read-as s (ClosingWithLengths c) e in
+    let g = read-with-lengths s c x in
+    let counted : lengthsWrong s (closingOf s) ≡ false = rw (g .1) at (g .0 .counted) in
+    let right : closingWrong c ≡ false = subst (λ (y : ClosingPdu). closingWrong y ≡ false) (g .2) (or-false (closingWrong (closingOf s)) _ counted .0) in
+    let h = lengths-said s c (z .octet) x in
+    let n = ap filled (lengths-long s 0 (c .number .0)) in
+    again _ _ old (19 + filled (length (lengthsOf s 0 (c .number .0)))) r new s w
+    (lengths-writable s c (z .octet) (h .closing) right (lengthsOf s 0 (c .number .0)) (length old)
+    (list-writable s (c .number .0) (c .elapsed .0) (z .octet) (h .sum)) (omega (arith, n, l, fits)))
+    (omega (arith, n, l)) (lengths-again s c (plain s z) l pad x)
+
+pub demand-2 : Demand2
+demand-2 =
+    record {
+      checked = checked;
+      data-back = λ stamp n e p old k new r w h.
+          let q = ap (take k) (left-is _ _ old k new w) in
+          let d = done-is _ _ old k new w in (
+            read-of _ _ r _ h q (data-went-in stamp n e (length old) k p old d),
+            ap (drop 11) q ∙ payload-there stamp n e p old k (size-of stamp n e (length p) (length old) k d),
+          );
+      closing-back = λ c old k new r w e.
+          read-of _ _ r _ e (ap (take k) (left-is _ _ old k new w)) (closing-went-in c (length old) k old (done-is _ _ old k new w));
+      lengths-back = λ c ls old k new r w e.
+          let q = ap (take k) (left-is _ _ old k new w) in
+          let h = lengths-went-in c ls (length old) k old (done-is _ _ old k new w) in
+          (read-of _ _ r _ e q (h .0), ap (λ (x : List ℕ). lengthsOf x 0 (c .number .0)) q ∙ h .1);
+      data-again = λ s d old r new z e fits w.
+          let x = read-as s (Data d) e in
+          again _ _ old (length s) r new s w (data-writable s d (length old) (data-said s d x) fits) refl (data-again s d (plain s z) x);
+      closing-again = closing-again-written;
+      lengths-again = lengths-again-written;
+    }

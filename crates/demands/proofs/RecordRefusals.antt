@@ -1,0 +1,132 @@
+-- Demand 1 of records: a refused call carries one of its numbers, and leaves the record, or the lent lists, as they were. Assumes nothing.
+use Prim.Native.Nat.{ℕ}
+use native.Mathlib.Omega.{arith}
+use mathlib.Core.Path.{_≡_, refl, sym, ap, _∙_}
+use mathlib.Core.Bool.{Bool, true, _||_}
+use mathlib.Core.List.{List, [], _∷_, _++_}
+use lib.Dec.{ltb, leb, eqb}
+use lib.ListN.{length}
+use Rattle.units.specs.Limits.{lastStamp}
+use Rattle.fields.proofs.Choosing.{whichever}
+use Rattle.fields.proofs.Tests.{or-true}
+use Rattle.frame.specs.declared.ClosingPdu.{ClosingPdu}
+use Rattle.frame.specs.declared.DataPdu.{DataPdu}
+use Rattle.frame.specs.declared.Read.{Read}
+use Rattle.frame.specs.declared.Read.the-variants.{Closing, Data, ClosingWithLengths, Refused as NotRead}
+use Rattle.frame.specs.Paper.{CountPaper, readPaper}
+use Rattle.frame.specs.Reading.{readFrame}
+use Rattle.reception.specs.declared.Joining.{Joining}
+use Rattle.reception.specs.declared.Reported.{Reported}
+use Rattle.reception.specs.declared.Reported.the-variants.{Done, Refused}
+use Rattle.reception.specs.declared.Taking.{Taking}
+use Rattle.reception.specs.Adding.{packetContradicts, closingContradicts}
+use Rattle.reception.specs.Hearing.{Kept, Outcome, keptIn, heldBy, unused, unmatched, damagedKept, listsDiffer, otherKey, freshRecord, hearPacket, hearClosing, hearRead, hearFrame, takenPaper, Takes}
+use Rattle.reception.specs.Joining.{JoinOutcome, capacitiesOff, otherRecord, lowest, ownClosingOff, joinRecords, joinedPaper, Joins}
+use Rattle.reception.specs.Reporting.{Gap, ReportPaper, gapsOf, gapsAfter, reportRecord, reportedPaper, roomOf, Reports}
+use Rattle.demands.specs.Demand1.{among, carries, ofReading, ofHearing, Leaves}
+use Rattle.demands.proofs.Refusals.{among-more, read-carries}
+
+abbrev accepted-of : CountPaper → ℕ
+accepted-of p = p .accepted
+
+no-zero : {A : Type 0} → _≡_ {A = ℕ} 1 0 → A
+no-zero e = absurd (omega (arith, e))
+
+-- fresh records, and hearing
+abbrev pub OutcomeLeaves : List ℕ → Kept → Outcome → Type 0
+OutcomeLeaves numbers old t = Leaves numbers old (takenPaper (t .answer)) (t .kept)
+
+pub takes-leaves : (numbers : List ℕ) (old : Kept) (t : Outcome) (r : Taking) (m e s : List ℕ) → OutcomeLeaves numbers old t → Takes t r m e s
+    → Leaves numbers old (takenPaper (r .answer)) (keptIn (r .head) m e s)
+takes-leaves numbers old t r m e s c w = (rw (w .says) (c .0), λ z. w .leaves ∙ c .1 (sym (ap accepted-of (w .says)) ∙ z))
+
+pub fresh-leaves : (bearer period stamp : ℕ) (marks elapsed sizes : List ℕ)
+    → OutcomeLeaves (14 ∷ 5 ∷ []) (unused marks elapsed sizes) (freshRecord bearer period stamp marks elapsed sizes)
+unfolding freshRecord takenPaper among
+fresh-leaves bearer period stamp marks elapsed sizes =
+    whichever (OutcomeLeaves (14 ∷ 5 ∷ []) (unused marks elapsed sizes)) _ _ (listsDiffer (length marks) (length elapsed) (length sizes)) (refl, λ _. refl)
+    (λ _. whichever (OutcomeLeaves (14 ∷ 5 ∷ []) (unused marks elapsed sizes)) _ _ (ltb lastStamp stamp) (refl, λ _. refl) (λ _. (refl, no-zero)))
+
+packet-leaves : (k : Kept) (bearer period : ℕ) (d : DataPdu) → OutcomeLeaves ofHearing k (hearPacket k bearer period d)
+unfolding hearPacket takenPaper among
+packet-leaves k bearer period d =
+    whichever (OutcomeLeaves ofHearing k) _ _ (otherKey (k .head) bearer period (d .stamp)) (refl, λ _. refl)
+    (λ _.
+    whichever (OutcomeLeaves ofHearing k) _ _ (leb (length (k .marks)) (d .number .0)) (refl, λ _. refl)
+    (λ _.
+    whichever (OutcomeLeaves ofHearing k) _ _ (packetContradicts (heldBy k) (d .number .0) (d .elapsed .0) (d .length .0)) (refl, λ _. refl)
+    (λ _. (refl, no-zero))))
+
+closing-leaves : (k : Kept) (bearer period : ℕ) (c : ClosingPdu) → OutcomeLeaves ofHearing k (hearClosing k bearer period c)
+unfolding hearClosing takenPaper among
+closing-leaves k bearer period c =
+    whichever (OutcomeLeaves ofHearing k) _ _ (otherKey (k .head) bearer period (c .stamp)) (refl, λ _. refl)
+    (λ _.
+    whichever (OutcomeLeaves ofHearing k) _ _ (ltb (length (k .marks)) (c .number .0)) (refl, λ _. refl)
+    (λ _.
+    whichever (OutcomeLeaves ofHearing k) _ _ (closingContradicts (heldBy k) (c .number .0) (c .elapsed .0)) (refl, λ _. refl)
+    (λ _. (refl, no-zero))))
+
+read-leaves : (k : Kept) (bearer period : ℕ) (x : Read) → carries ofReading (readPaper x .number) (readPaper x .kind) ≡ true
+    → OutcomeLeaves ofHearing k (hearRead k bearer period x)
+unfolding hearRead readPaper takenPaper among
+read-leaves k bearer period (NotRead r) c =
+    (rw (among-more ofReading (13 ∷ 9 ∷ 10 ∷ 11 ∷ []) (r .number) c) (or-true (eqb 14 (r .number))), λ _. refl)
+read-leaves k bearer period (Data d) c = whichever (OutcomeLeaves ofHearing k) _ _ (damagedKept k) (refl, λ _. refl) (λ _. packet-leaves k bearer period d)
+read-leaves k bearer period (Closing p) c = whichever (OutcomeLeaves ofHearing k) _ _ (damagedKept k) (refl, λ _. refl) (λ _. closing-leaves k bearer period p)
+read-leaves k bearer period (ClosingWithLengths p) c = whichever (OutcomeLeaves ofHearing k) _ _ (damagedKept k) (refl, λ _. refl) (λ _. closing-leaves k bearer period p)
+
+pub hear-leaves : (k : Kept) (bearer period : ℕ) (f : List ℕ) → OutcomeLeaves ofHearing k (hearFrame k bearer period f)
+unfolding hearFrame takenPaper among
+hear-leaves k bearer period f =
+    whichever (OutcomeLeaves ofHearing k) _ _ (unmatched k) (refl, λ _. refl) (λ _. read-leaves k bearer period (readFrame f) (read-carries f))
+
+-- joining
+abbrev pub JoinLeaves : Kept → JoinOutcome → Type 0
+JoinLeaves a t = Leaves (14 ∷ 13 ∷ 9 ∷ 11 ∷ []) a (joinedPaper (t .answer)) (t .kept)
+
+pub joins-leaves : (a : Kept) (t : JoinOutcome) (r : Joining) (m e s : List ℕ) → JoinLeaves a t → Joins t r m e s
+    → Leaves (14 ∷ 13 ∷ 9 ∷ 11 ∷ []) a (joinedPaper (r .answer)) (keptIn (r .head) m e s)
+joins-leaves a t r m e s c w = (rw (w .says) (c .0), λ z. w .leaves ∙ c .1 (sym (ap accepted-of (w .says)) ∙ z))
+
+pub join-leaves : (a b : Kept) → JoinLeaves a (joinRecords a b)
+unfolding joinRecords joinedPaper among
+join-leaves a b =
+    whichever (JoinLeaves a) _ _ (capacitiesOff a b) (refl, λ _. refl)
+    (λ _.
+    whichever (JoinLeaves a) _ _ (damagedKept a || damagedKept b) (refl, λ _. refl)
+    (λ _.
+    whichever (JoinLeaves a) _ _ (otherRecord a b) (refl, λ _. refl)
+    (λ _.
+    whichever (JoinLeaves a) _ _ (ltb (lowest (heldBy a) (heldBy b)) (length (a .marks))) (refl, λ _. refl)
+    (λ _. whichever (JoinLeaves a) _ _ (ownClosingOff (heldBy a) (heldBy b)) (refl, λ _. refl) (λ _. (refl, no-zero))))))
+
+-- reporting
+abbrev ReportCarries : Reported → Type 0
+ReportCarries x = carries (14 ∷ 13 ∷ 12 ∷ []) (reportedPaper x .number) (reportedPaper x .accepted) ≡ true
+
+report-carries : (k : Kept) (room : ℕ) → ReportCarries (reportRecord k room)
+unfolding reportRecord reportedPaper among
+report-carries k room =
+    whichever ReportCarries _ _ (unmatched k) refl
+    (λ _.
+    whichever ReportCarries _ _ (damagedKept k) refl (λ _. whichever ReportCarries _ _ (ltb room (length (gapsOf (heldBy k)))) refl (λ _. refl)))
+
+none-listed : (x : Reported) (number : Gap → ℕ) (gaps : List Gap) (old : List ℕ) → reportedPaper x .accepted ≡ 0 → gapsAfter x number gaps old ≡ old
+unfolding reportedPaper gapsAfter
+none-listed (Done r) number gaps old e = absurd (omega (arith, e))
+none-listed (Refused r) number gaps old e = refl
+
+pub reports-carry : (k : Kept) (firsts counts octets : List ℕ) (r : Reported) (f c o : List ℕ) → Reports k firsts counts octets r f c o
+    → (carries (14 ∷ 13 ∷ 12 ∷ []) (reportedPaper r .number) (reportedPaper r .accepted) ≡ true)
+    × (reportedPaper r .accepted ≡ 0 → (f ≡ firsts) × (c ≡ counts) × (o ≡ octets))
+reports-carry k firsts counts octets r f c o w =
+    let x = reportRecord k (roomOf firsts counts octets) in (
+      rw (w .says) (report-carries k (roomOf firsts counts octets)),
+      λ z.
+      let a = sym (ap (λ (p : ReportPaper). p .accepted) (w .says)) ∙ z in (
+        w .leaves-firsts ∙ none-listed x _ _ firsts a,
+        w .leaves-counts ∙ none-listed x _ _ counts a,
+        w .leaves-octets ∙ none-listed x _ _ octets a,
+      ),
+    )
