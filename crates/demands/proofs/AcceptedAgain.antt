@@ -2,10 +2,9 @@
 use Prim.Native.Nat.{ℕ, zero, suc, _+_, _*_, _/_, _%_, _^_, _≤_, _<_}
 use native.Mathlib.Nat.{add-zero, zero-add}
 use native.Mathlib.Omega.{arith}
-use mathlib.Core.Path.{_≡_, refl, sym, ap, _∙_}
+use mathlib.Core.Path.{_≡_, refl, ap, _∙_}
 use mathlib.Core.Bool.{false}
-use mathlib.Core.List.{List, [], _∷_}
-use lib.Dec.{ltb, leb, eqb}
+use mathlib.Core.List.{List}
 use lib.ListN.{length, getD, drop, length-drop}
 use borrow.Author.Tests.{le-ltb, lt-leb, eq-eqb}
 use Rattle.units.specs.Limits.{lastStamp, mostPayload, mostInSequence}
@@ -15,9 +14,9 @@ use Rattle.frame.specs.declared.ClosingPdu.{ClosingPdu}
 use Rattle.frame.specs.declared.DataPdu.{DataPdu}
 use Rattle.frame.specs.declared.Written.the-variants.{Done}
 use Rattle.frame.specs.Counts.{dataWrong, closingWrong, tooWide, givenWrong, anyAbove, sumOf, listWrong}
-use Rattle.frame.specs.Layout.{upperOrLower, lengthAt, filled, sumLengths, lengthsOf, closingOf}
+use Rattle.frame.specs.Layout.{upperOrLower, lengthAt, filled, sumLengths, lengthsOf}
 use Rattle.frame.specs.Writing.{writeData, writeClosing, writeLengths}
-use Rattle.frame.proofs.Said.{Possible, DataSaid, ClosingSaid}
+use Rattle.frame.proofs.Said.{DataSaid, ClosingSaid}
 
 -- the lengths of a Type 3 frame: as many, each of 12 bits, and their sum
 pub lengths-long : (s : List ℕ) (i n : ℕ) → length (lengthsOf s i n) ≡ n

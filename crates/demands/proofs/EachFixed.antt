@@ -22,9 +22,8 @@ use Rattle.sender.specs.Calls.{turnedPaper, Turns, Sends}
 use Rattle.reception.specs.declared.Reported.{Reported}
 use Rattle.reception.specs.declared.Taken.{Taken}
 use Rattle.reception.specs.declared.Taking.{Taking}
-use Rattle.reception.specs.Hearing.{Kept, Outcome, keptIn, Takes}
+use Rattle.reception.specs.Hearing.{Kept, Outcome, Takes}
 use Rattle.reception.specs.Reporting.{Reports}
-use Rattle.reception.specs.Several.{numbersAfter}
 use Rattle.reception.proofs.OnePaper.{taken-known, report-once}
 use Rattle.several.specs.Rest.{HearsSequence}
 use Rattle.demands.specs.OneOutcome.{Fixes, OneOutcome}

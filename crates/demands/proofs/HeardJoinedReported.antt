@@ -1,11 +1,9 @@
 -- Demand 3 holds. Assumes nothing.
-use Prim.Native.Nat.{ℕ, _≤_}
+use Prim.Native.Nat.{ℕ}
 use native.Mathlib.Omega.{arith}
 use mathlib.Core.Path.{_≡_, refl, sym, ap, subst, _∙_}
-use mathlib.Core.Bool.{true, false}
-use mathlib.Core.Logic.{_⊎_, _↔_}
+use mathlib.Core.Logic.{_↔_}
 use mathlib.Core.List.{List, map}
-use lib.ListN.{length}
 use Rattle.fields.specs.Runs.{front}
 use Rattle.frame.specs.Paper.{CountPaper}
 use Rattle.reception.specs.declared.Joined.{Joined}
@@ -15,9 +13,9 @@ use Rattle.reception.specs.declared.Reported.{Reported}
 use Rattle.reception.specs.declared.Reported.the-variants.{Done}
 use Rattle.reception.specs.declared.Taken.{Taken as TakenAnswer}
 use Rattle.reception.specs.declared.Taken.the-variants.{Done as TakenDone, Refused as NotTaken}
-use Rattle.reception.specs.Sendings.{Held, Explains}
-use Rattle.reception.specs.Hearing.{Kept, Outcome, heldBy, hearFrame, takenPaper, damagedKept}
-use Rattle.reception.specs.Joining.{JoinOutcome, joins, joinRecords, joinedPaper, otherRecord}
+use Rattle.reception.specs.Sendings.{Explains}
+use Rattle.reception.specs.Hearing.{Kept, Outcome, heldBy, hearFrame, takenPaper}
+use Rattle.reception.specs.Joining.{JoinOutcome, joins, joinRecords, joinedPaper}
 use Rattle.reception.specs.Missing.{GapsRight}
 use Rattle.reception.specs.Reporting.{Gap, gapsOf, gapsAfter, reportRecord, reportOf, Reports, roomOf}
 use Rattle.reception.proofs.DamagedExactly.{undamaged-passed}
@@ -115,10 +113,10 @@ three a b c ab abc bc a-bc h g i j t u =
       done-joined b c bc i (r .first),
       done-joined a (bc .kept) a-bc j (subst (λ (x : Kept). joinRecords a x .answer ≡ JoinDone) (sym (i .leaves)) (r .then)),
       g .leaves
-      ∙ ap (λ (x : Kept). joinRecords x c .kept) (h .leaves)
-      ∙ ap (λ (x : JoinOutcome). x .kept) (grouped a b c l)
-      ∙ ap (λ (x : Kept). joinRecords a x .kept) (sym (i .leaves))
-      ∙ sym (j .leaves),
+          ∙ ap (λ (x : Kept). joinRecords x c .kept) (h .leaves)
+          ∙ ap (λ (x : JoinOutcome). x .kept) (grouped a b c l)
+          ∙ ap (λ (x : Kept). joinRecords a x .kept) (sym (i .leaves))
+          ∙ sym (j .leaves),
     )
 
 -- the report

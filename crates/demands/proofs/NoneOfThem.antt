@@ -6,12 +6,10 @@ use mathlib.Core.List.{List, [], _∷_}
 use lib.ListN.{getD}
 use Rattle.fields.specs.Numbers.{be, octets}
 use Rattle.checks.specs.Check.{divide, lowDigits, bitsOf, check}
-use Rattle.frame.specs.declared.Read.{Read}
 use Rattle.frame.specs.Counts.{someOf, dataWrong}
 use Rattle.frame.specs.Paper.{ReadPaper, CountPaper, readPaper, writtenPaper}
 use Rattle.frame.specs.Reading.{readFrame, readHeaded, readBody}
 use Rattle.frame.specs.Writing.{dataFrame, writeData}
-use Rattle.reception.specs.declared.Reported.the-variants.{Done}
 use Rattle.reception.specs.Adding.{packetContradicts, closingContradicts}
 use Rattle.reception.specs.Damage.{placeWrong, placesWrong, closingOff, walkFails, damagedRecord}
 use Rattle.reception.specs.Hearing.{Kept, emptyKept, keepPacket, listsDiffer, otherKey, hearPacket, hearRead, hearFrame}

@@ -1,7 +1,6 @@
 -- Demand 1 holds. Assumes nothing.
-use mathlib.Core.List.{[], _∷_}
 use lib.ListN.{length}
-use Rattle.demands.specs.Demand1.{ofHearing, Demand1}
+use Rattle.demands.specs.Demand1.{Demand1}
 use Rattle.demands.proofs.Refusals.{read-carries, lists-carry, writes, data-carries, closing-carries, lengths-carry, moment-carries, due-carries}
 use Rattle.demands.proofs.SenderRefusals.{turns-carry, open-carries, renew-carries, sends-carry, data-stays, close-stays, close-with-stays}
 use Rattle.demands.proofs.RecordRefusals.{takes-leaves, fresh-leaves, hear-leaves, joins-leaves, join-leaves, reports-carry}

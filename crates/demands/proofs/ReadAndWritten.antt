@@ -14,19 +14,18 @@ use Rattle.fields.specs.Runs.{front}
 use Rattle.fields.proofs.Choosing.{past}
 use Rattle.fields.proofs.Laying.{take-front}
 use Rattle.fields.proofs.Tests.{or-false}
-use Rattle.checks.specs.Check.{headerCheck, payloadCheck}
+use Rattle.checks.specs.Check.{payloadCheck}
 use Rattle.frame.specs.declared.ClosingPdu.{ClosingPdu}
-use Rattle.frame.specs.declared.DataPdu.{DataPdu}
 use Rattle.frame.specs.declared.Read.{Read}
 use Rattle.frame.specs.declared.Read.the-variants.{Closing, Data, ClosingWithLengths}
 use Rattle.frame.specs.declared.Written.{Written}
 use Rattle.frame.specs.declared.Written.the-variants.{Done}
 use Rattle.frame.specs.Counts.{dataWrong, closingWrong, lengthsWrong}
-use Rattle.frame.specs.Layout.{typeOf, control, headerCheckIn, payloadCheckIn, payloadPart, filled, sumLengths, lengthsOf, closingOf}
+use Rattle.frame.specs.Layout.{typeOf, control, payloadCheckIn, payloadPart, filled, lengthsOf, closingOf}
 use Rattle.frame.specs.Paper.{readPaper, writtenPaper}
-use Rattle.frame.specs.Reading.{refuse, checkWrong, countsWrong, said, readFrame}
+use Rattle.frame.specs.Reading.{refuse, checkWrong, said, readFrame}
 use Rattle.frame.specs.Writing.{refuseWrite, writeData, writeClosing, writeLengths, dataFrame, closingFrame, lengthsFrame, after}
-use Rattle.frame.proofs.Accepted.{Good, good-read, read-closing, read-with-lengths}
+use Rattle.frame.proofs.Accepted.{good-read, read-closing, read-with-lengths}
 use Rattle.frame.proofs.OnePaper.{read-known, written-known}
 use Rattle.frame.proofs.Said.{data-said, closing-said, lengths-said}
 use Rattle.frame.proofs.WhatWentIn.{data-length, data-went-in, closing-went-in, lengths-went-in}

@@ -1,9 +1,8 @@
 -- Demand 1 of records: a refused call carries one of its numbers, and leaves the record, or the lent lists, as they were. Assumes nothing.
 use Prim.Native.Nat.{ℕ}
-use native.Mathlib.Omega.{arith}
 use mathlib.Core.Path.{_≡_, refl, sym, ap, _∙_}
-use mathlib.Core.Bool.{Bool, true, _||_}
-use mathlib.Core.List.{List, [], _∷_, _++_}
+use mathlib.Core.Bool.{true, _||_}
+use mathlib.Core.List.{List, [], _∷_}
 use lib.Dec.{ltb, leb, eqb}
 use lib.ListN.{length}
 use Rattle.units.specs.Limits.{lastStamp}
@@ -13,7 +12,7 @@ use Rattle.frame.specs.declared.ClosingPdu.{ClosingPdu}
 use Rattle.frame.specs.declared.DataPdu.{DataPdu}
 use Rattle.frame.specs.declared.Read.{Read}
 use Rattle.frame.specs.declared.Read.the-variants.{Closing, Data, ClosingWithLengths, Refused as NotRead}
-use Rattle.frame.specs.Paper.{CountPaper, readPaper}
+use Rattle.frame.specs.Paper.{readPaper}
 use Rattle.frame.specs.Reading.{readFrame}
 use Rattle.reception.specs.declared.Joining.{Joining}
 use Rattle.reception.specs.declared.Reported.{Reported}
@@ -23,14 +22,8 @@ use Rattle.reception.specs.Adding.{packetContradicts, closingContradicts}
 use Rattle.reception.specs.Hearing.{Kept, Outcome, keptIn, heldBy, unused, unmatched, damagedKept, listsDiffer, otherKey, freshRecord, hearPacket, hearClosing, hearRead, hearFrame, takenPaper, Takes}
 use Rattle.reception.specs.Joining.{JoinOutcome, capacitiesOff, otherRecord, lowest, ownClosingOff, joinRecords, joinedPaper, Joins}
 use Rattle.reception.specs.Reporting.{Gap, ReportPaper, gapsOf, gapsAfter, reportRecord, reportedPaper, roomOf, Reports}
-use Rattle.demands.specs.Demand1.{among, carries, ofReading, ofHearing, Leaves}
-use Rattle.demands.proofs.Refusals.{among-more, read-carries}
-
-abbrev accepted-of : CountPaper → ℕ
-accepted-of p = p .accepted
-
-no-zero : {A : Type 0} → _≡_ {A = ℕ} 1 0 → A
-no-zero e = absurd (omega (arith, e))
+use Rattle.demands.specs.Demand1.{among, carries, ofFresh, ofJoining, ofReport, ofReading, ofHearing, Leaves}
+use Rattle.demands.proofs.Refusals.{accepted-of, no-zero, among-more, read-carries}
 
 -- fresh records, and hearing
 abbrev pub OutcomeLeaves : List ℕ → Kept → Outcome → Type 0
@@ -41,11 +34,11 @@ pub takes-leaves : (numbers : List ℕ) (old : Kept) (t : Outcome) (r : Taking) 
 takes-leaves numbers old t r m e s c w = (rw (w .says) (c .0), λ z. w .leaves ∙ c .1 (sym (ap accepted-of (w .says)) ∙ z))
 
 pub fresh-leaves : (bearer period stamp : ℕ) (marks elapsed sizes : List ℕ)
-    → OutcomeLeaves (14 ∷ 5 ∷ []) (unused marks elapsed sizes) (freshRecord bearer period stamp marks elapsed sizes)
+    → OutcomeLeaves ofFresh (unused marks elapsed sizes) (freshRecord bearer period stamp marks elapsed sizes)
 unfolding freshRecord takenPaper among
 fresh-leaves bearer period stamp marks elapsed sizes =
-    whichever (OutcomeLeaves (14 ∷ 5 ∷ []) (unused marks elapsed sizes)) _ _ (listsDiffer (length marks) (length elapsed) (length sizes)) (refl, λ _. refl)
-    (λ _. whichever (OutcomeLeaves (14 ∷ 5 ∷ []) (unused marks elapsed sizes)) _ _ (ltb lastStamp stamp) (refl, λ _. refl) (λ _. (refl, no-zero)))
+    whichever (OutcomeLeaves ofFresh (unused marks elapsed sizes)) _ _ (listsDiffer (length marks) (length elapsed) (length sizes)) (refl, λ _. refl)
+    (λ _. whichever (OutcomeLeaves ofFresh (unused marks elapsed sizes)) _ _ (ltb lastStamp stamp) (refl, λ _. refl) (λ _. (refl, no-zero)))
 
 packet-leaves : (k : Kept) (bearer period : ℕ) (d : DataPdu) → OutcomeLeaves ofHearing k (hearPacket k bearer period d)
 unfolding hearPacket takenPaper among
@@ -83,10 +76,10 @@ hear-leaves k bearer period f =
 
 -- joining
 abbrev pub JoinLeaves : Kept → JoinOutcome → Type 0
-JoinLeaves a t = Leaves (14 ∷ 13 ∷ 9 ∷ 11 ∷ []) a (joinedPaper (t .answer)) (t .kept)
+JoinLeaves a t = Leaves ofJoining a (joinedPaper (t .answer)) (t .kept)
 
 pub joins-leaves : (a : Kept) (t : JoinOutcome) (r : Joining) (m e s : List ℕ) → JoinLeaves a t → Joins t r m e s
-    → Leaves (14 ∷ 13 ∷ 9 ∷ 11 ∷ []) a (joinedPaper (r .answer)) (keptIn (r .head) m e s)
+    → Leaves ofJoining a (joinedPaper (r .answer)) (keptIn (r .head) m e s)
 joins-leaves a t r m e s c w = (rw (w .says) (c .0), λ z. w .leaves ∙ c .1 (sym (ap accepted-of (w .says)) ∙ z))
 
 pub join-leaves : (a b : Kept) → JoinLeaves a (joinRecords a b)
@@ -103,7 +96,7 @@ join-leaves a b =
 
 -- reporting
 abbrev ReportCarries : Reported → Type 0
-ReportCarries x = carries (14 ∷ 13 ∷ 12 ∷ []) (reportedPaper x .number) (reportedPaper x .accepted) ≡ true
+ReportCarries x = carries ofReport (reportedPaper x .number) (reportedPaper x .accepted) ≡ true
 
 report-carries : (k : Kept) (room : ℕ) → ReportCarries (reportRecord k room)
 unfolding reportRecord reportedPaper among
@@ -114,19 +107,19 @@ report-carries k room =
 
 none-listed : (x : Reported) (number : Gap → ℕ) (gaps : List Gap) (old : List ℕ) → reportedPaper x .accepted ≡ 0 → gapsAfter x number gaps old ≡ old
 unfolding reportedPaper gapsAfter
-none-listed (Done r) number gaps old e = absurd (omega (arith, e))
+none-listed (Done r) number gaps old e = no-zero e
 none-listed (Refused r) number gaps old e = refl
 
 pub reports-carry : (k : Kept) (firsts counts octets : List ℕ) (r : Reported) (f c o : List ℕ) → Reports k firsts counts octets r f c o
-    → (carries (14 ∷ 13 ∷ 12 ∷ []) (reportedPaper r .number) (reportedPaper r .accepted) ≡ true)
+    → (carries ofReport (reportedPaper r .number) (reportedPaper r .accepted) ≡ true)
     × (reportedPaper r .accepted ≡ 0 → (f ≡ firsts) × (c ≡ counts) × (o ≡ octets))
 reports-carry k firsts counts octets r f c o w =
     let x = reportRecord k (roomOf firsts counts octets) in (
       rw (w .says) (report-carries k (roomOf firsts counts octets)),
       λ z.
-      let a = sym (ap (λ (p : ReportPaper). p .accepted) (w .says)) ∙ z in (
-        w .leaves-firsts ∙ none-listed x _ _ firsts a,
-        w .leaves-counts ∙ none-listed x _ _ counts a,
-        w .leaves-octets ∙ none-listed x _ _ octets a,
-      ),
+          let a = sym (ap (λ (p : ReportPaper). p .accepted) (w .says)) ∙ z in (
+            w .leaves-firsts ∙ none-listed x _ _ firsts a,
+            w .leaves-counts ∙ none-listed x _ _ counts a,
+            w .leaves-octets ∙ none-listed x _ _ octets a,
+          ),
     )

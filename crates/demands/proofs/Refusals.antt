@@ -2,13 +2,12 @@
 -- nothing.
 use Prim.Native.Nat.{ℕ, zero, suc, _+_}
 use native.Mathlib.Omega.{arith}
-use mathlib.Core.Path.{_≡_, refl, sym, ap, subst, _∙_}
-use mathlib.Core.Bool.{Bool, true, false, cond, _||_, false≢true}
+use mathlib.Core.Path.{_≡_, refl, sym, ap, _∙_}
+use mathlib.Core.Bool.{Bool, true, false, _||_, false≢true}
 use mathlib.Core.List.{List, [], _∷_, _++_}
 use lib.Dec.{ltb, leb, eqb}
 use lib.ListN.{length}
 use Rattle.units.specs.Limits.{lastStamp, mostPayload}
-use Rattle.fields.specs.Choice.{_when_otherwise_}
 use Rattle.fields.proofs.Choosing.{whichever}
 use Rattle.clock.specs.declared.Moment.{Moment}
 use Rattle.clock.specs.declared.DueTime.{DueTime}
@@ -21,7 +20,7 @@ use Rattle.frame.specs.declared.Listed.{Listed}
 use Rattle.frame.specs.declared.Listed.the-variants.{Lengths, Refused as NotListed}
 use Rattle.frame.specs.declared.Written.{Written}
 use Rattle.frame.specs.declared.Written.the-variants.{Done, Refused as NotWritten}
-use Rattle.frame.specs.Paper.{ReadPaper, CountPaper, readPaper, listedPaper, writtenPaper}
+use Rattle.frame.specs.Paper.{CountPaper, readPaper, listedPaper, writtenPaper}
 use Rattle.frame.specs.Listing.{listLengths, listed}
 use Rattle.frame.specs.Counts.{dataWrong, givenWrong, listWrong}
 use Rattle.frame.specs.Layout.{typeOf, stampOf, control, least, filled}
@@ -29,7 +28,7 @@ use Rattle.frame.specs.Reading.{lengthWrong, checkWrong, countsWrong, headerWro
 use Rattle.frame.specs.Writing.{writeData, writeClosing, writeLengths, after}
 use Rattle.reader.specs.Lists.{Lists}
 use Rattle.writer.specs.Promise.{Wrote}
-use Rattle.demands.specs.Demand1.{among, carries, ofReading, ofHearing, Writes}
+use Rattle.demands.specs.Demand1.{among, carries, ofReading, ofLengths, ofWritingData, ofWritingClosing, ofWritingLengths, ofStamp, ofDue, Writes}
 
 -- reading
 abbrev ReadCarries : Read → Type 0
@@ -62,6 +61,13 @@ read-carries s =
     whichever ReadCarries _ _ (ltb 3 (typeOf s)) refl
     (λ _. whichever ReadCarries _ _ (ltb (length s) (least (typeOf s))) refl (λ _. headed-carries (typeOf s) s))))
 
+-- what was accepted was not refused
+pub no-zero : {A : Type 0} → _≡_ {A = ℕ} 1 0 → A
+no-zero e = absurd (omega (arith, e))
+
+abbrev pub accepted-of : CountPaper → ℕ
+accepted-of p = p .accepted
+
 -- one of some numbers is one of more
 pub among-more : (xs ys : List ℕ) (n : ℕ) → among xs n ≡ true → among (xs ++ ys) n ≡ true
 unfolding among
@@ -73,9 +79,6 @@ among-more (x ∷ xs) ys n e = go (eqb x n) (among-more xs ys n) e
     go false h q = h q
 
 -- lengths
-abbrev ofLengths : List ℕ
-ofLengths = ofReading ++ (12 ∷ [])
-
 abbrev ListCarries : Listed → Type 0
 ListCarries x = carries ofLengths (listedPaper x .number) (listedPaper x .accepted) ≡ true
 
@@ -88,13 +91,13 @@ listed-carries (ClosingWithLengths p) room c = whichever ListCarries _ _ (ltb ro
 
 none-listed : (a : Listed) (s old : List ℕ) → listedPaper a .accepted ≡ 0 → listed a s old ≡ old
 unfolding listedPaper listed
-none-listed (Lengths n) s old e = absurd (omega (arith, e))
+none-listed (Lengths n) s old e = no-zero e
 none-listed (NotListed r) s old e = refl
 
 pub lists-carry : (s old : List ℕ) (r : Listed) (new : List ℕ) → Lists s old r new → Writes ofLengths (listedPaper r) old new
 lists-carry s old r new w = (
   rw (w .says) (listed-carries (readFrame s) (length old) (read-carries s)),
-  λ z. w .leaves ∙ none-listed (listLengths (readFrame s) (length old)) s old (sym (ap (λ (p : CountPaper). p .accepted) (w .says)) ∙ z),
+  λ z. w .leaves ∙ none-listed (listLengths (readFrame s) (length old)) s old (sym (ap accepted-of (w .says)) ∙ z),
 )
 
 -- writing
@@ -103,55 +106,52 @@ WriteCarries numbers a = carries numbers (writtenPaper a .number) (writtenPaper 
 
 pub none-written : (a : Written) (frame old : List ℕ) → writtenPaper a .accepted ≡ 0 → after a frame old ≡ old
 unfolding writtenPaper after
-none-written (Done n) frame old e = absurd (omega (arith, e))
+none-written (Done n) frame old e = no-zero e
 none-written (NotWritten r) frame old e = refl
 
 pub writes : (numbers : List ℕ) (a : Written) (frame old : List ℕ) (r : Written) (new : List ℕ) → WriteCarries numbers a → Wrote a frame old r new
     → Writes numbers (writtenPaper r) old new
 writes numbers a frame old r new c w = (
   rw (w .says) c,
-  λ z. w .leaves ∙ none-written a frame old (sym (ap (λ (p : CountPaper). p .accepted) (w .says)) ∙ z),
+  λ z. w .leaves ∙ none-written a frame old (sym (ap accepted-of (w .says)) ∙ z),
 )
 
-abbrev W : List ℕ → Written → Type 0
-W = WriteCarries
-
-pub data-carries : (stamp n e l room : ℕ) → WriteCarries (5 ∷ 20 ∷ 8 ∷ 12 ∷ []) (writeData stamp n e l room)
+pub data-carries : (stamp n e l room : ℕ) → WriteCarries ofWritingData (writeData stamp n e l room)
 unfolding writeData writtenPaper among
 data-carries stamp n e l room =
-    whichever (W (5 ∷ 20 ∷ 8 ∷ 12 ∷ [])) _ _ (ltb lastStamp stamp) refl
+    whichever (WriteCarries ofWritingData) _ _ (ltb lastStamp stamp) refl
     (λ _.
-    whichever (W (5 ∷ 20 ∷ 8 ∷ 12 ∷ [])) _ _ (ltb mostPayload l) refl
+    whichever (WriteCarries ofWritingData) _ _ (ltb mostPayload l) refl
     (λ _.
-    whichever (W (5 ∷ 20 ∷ 8 ∷ 12 ∷ [])) _ _ (dataWrong n e) refl
-    (λ _. whichever (W (5 ∷ 20 ∷ 8 ∷ 12 ∷ [])) _ _ (ltb room (11 + l)) refl (λ _. refl))))
+    whichever (WriteCarries ofWritingData) _ _ (dataWrong n e) refl
+    (λ _. whichever (WriteCarries ofWritingData) _ _ (ltb room (11 + l)) refl (λ _. refl))))
 
-pub closing-carries : (c : ClosingPdu) (room : ℕ) → WriteCarries (5 ∷ 8 ∷ 12 ∷ []) (writeClosing c room)
+pub closing-carries : (c : ClosingPdu) (room : ℕ) → WriteCarries ofWritingClosing (writeClosing c room)
 unfolding writeClosing writtenPaper among
 closing-carries c room =
-    whichever (W (5 ∷ 8 ∷ 12 ∷ [])) _ _ (ltb lastStamp (c .stamp)) refl
-    (λ _. whichever (W (5 ∷ 8 ∷ 12 ∷ [])) _ _ (givenWrong c) refl (λ _. whichever (W (5 ∷ 8 ∷ 12 ∷ [])) _ _ (ltb room 18) refl (λ _. refl)))
+    whichever (WriteCarries ofWritingClosing) _ _ (ltb lastStamp (c .stamp)) refl
+    (λ _. whichever (WriteCarries ofWritingClosing) _ _ (givenWrong c) refl (λ _. whichever (WriteCarries ofWritingClosing) _ _ (ltb room 18) refl (λ _. refl)))
 
-pub lengths-carry : (c : ClosingPdu) (ls : List ℕ) (room : ℕ) → WriteCarries (5 ∷ 8 ∷ 22 ∷ 12 ∷ []) (writeLengths c ls room)
+pub lengths-carry : (c : ClosingPdu) (ls : List ℕ) (room : ℕ) → WriteCarries ofWritingLengths (writeLengths c ls room)
 unfolding writeLengths writtenPaper among
 lengths-carry c ls room =
-    whichever (W (5 ∷ 8 ∷ 22 ∷ 12 ∷ [])) _ _ (ltb lastStamp (c .stamp)) refl
+    whichever (WriteCarries ofWritingLengths) _ _ (ltb lastStamp (c .stamp)) refl
     (λ _.
-    whichever (W (5 ∷ 8 ∷ 22 ∷ 12 ∷ [])) _ _ (givenWrong c) refl
+    whichever (WriteCarries ofWritingLengths) _ _ (givenWrong c) refl
     (λ _.
-    whichever (W (5 ∷ 8 ∷ 22 ∷ 12 ∷ [])) _ _ (listWrong ls (c .number .0) (c .elapsed .0)) refl
-    (λ _. whichever (W (5 ∷ 8 ∷ 22 ∷ 12 ∷ [])) _ _ (ltb room (19 + filled (length ls))) refl (λ _. refl))))
+    whichever (WriteCarries ofWritingLengths) _ _ (listWrong ls (c .number .0) (c .elapsed .0)) refl
+    (λ _. whichever (WriteCarries ofWritingLengths) _ _ (ltb room (19 + filled (length ls))) refl (λ _. refl))))
 
 -- the clock
 abbrev MomentCarries : Moment → Type 0
-MomentCarries x = carries (23 ∷ []) (momentPaper x .number) (momentPaper x .accepted) ≡ true
+MomentCarries x = carries ofStamp (momentPaper x .number) (momentPaper x .accepted) ≡ true
 
 pub moment-carries : (tick start : ℕ) → MomentCarries (momentOf tick start)
 unfolding momentOf momentPaper among
 moment-carries tick start = whichever MomentCarries _ _ (leb 60000 (past tick start)) refl (λ _. refl)
 
 abbrev DueCarries : DueTime → Type 0
-DueCarries x = carries (5 ∷ []) (duePaper x .number) (duePaper x .accepted) ≡ true
+DueCarries x = carries ofDue (duePaper x .number) (duePaper x .accepted) ≡ true
 
 pub due-carries : (start stamp : ℕ) → DueCarries (dueAt start stamp)
 unfolding dueAt duePaper among

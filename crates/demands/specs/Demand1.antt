@@ -41,12 +41,56 @@ among (m ∷ ms) n = eqb m n || among ms n
 abbrev pub carries : List ℕ → ℕ → ℕ → Bool
 carries numbers number taken = cond (eqb taken 0) (among numbers number) (eqb number 0)
 
--- the numbers of reading, and of the calls beyond it, in document 01's order
-abbrev pub ofReading : List ℕ
+-- the refusals of each call, in document 01's order ("Order when several apply")
+abbrev pub ofReading : List ℕ  -- "Reading: empty 1; 2; 3; too short 1; 4; 5; 6; 7; 8"
 ofReading = 1 ∷ 2 ∷ 3 ∷ 4 ∷ 5 ∷ 6 ∷ 7 ∷ 8 ∷ []
 
-abbrev pub ofHearing : List ℕ
+abbrev pub ofLengths : List ℕ  -- "Reading the lengths of a Type 3 frame into a lent list: reading's order, 12"
+ofLengths = ofReading ++ (12 ∷ [])
+
+-- "Writing a frame from given fields, without a sender: 5, 20, 8, 22, 12": of Types 1, 0 and 3
+abbrev pub ofWritingData : List ℕ
+ofWritingData = 5 ∷ 20 ∷ 8 ∷ 12 ∷ []
+
+abbrev pub ofWritingClosing : List ℕ
+ofWritingClosing = 5 ∷ 8 ∷ 12 ∷ []
+
+abbrev pub ofWritingLengths : List ℕ
+ofWritingLengths = 5 ∷ 8 ∷ 22 ∷ 12 ∷ []
+
+abbrev pub ofOpening : List ℕ  -- "Opening a sequence: 21, 15, 5, 16"
+ofOpening = 21 ∷ 15 ∷ 5 ∷ 16 ∷ []
+
+abbrev pub ofNewPeriod : List ℕ  -- "New period: 21, 15"
+ofNewPeriod = 21 ∷ 15 ∷ []
+
+abbrev pub ofData : List ℕ  -- "Data: 21, 15, 20, 17, 18, 19, 12"
+ofData = 21 ∷ 15 ∷ 20 ∷ 17 ∷ 18 ∷ 19 ∷ 12 ∷ []
+
+-- "Closing: 21, 15, 22 for Type 3, 12"
+abbrev pub ofClosing : List ℕ
+ofClosing = 21 ∷ 15 ∷ 12 ∷ []
+
+abbrev pub ofClosingLengths : List ℕ
+ofClosingLengths = 21 ∷ 15 ∷ 22 ∷ 12 ∷ []
+
+abbrev pub ofStamp : List ℕ  -- "Stamp of a moment: 23"
+ofStamp = 23 ∷ []
+
+abbrev pub ofDue : List ℕ  -- "Due time: 5"
+ofDue = 5 ∷ []
+
+abbrev pub ofFresh : List ℕ  -- "Fresh record: 14, 5"
+ofFresh = 14 ∷ 5 ∷ []
+
+abbrev pub ofHearing : List ℕ  -- "Hearing a frame: 14, reading's order, 13, 9, 10, 11"
 ofHearing = 14 ∷ (ofReading ++ (13 ∷ 9 ∷ 10 ∷ 11 ∷ []))
+
+abbrev pub ofJoining : List ℕ  -- "Joining: 14, 13, 9, 11"
+ofJoining = 14 ∷ 13 ∷ 9 ∷ 11 ∷ []
+
+abbrev pub ofReport : List ℕ  -- "Report: 14, 13, 12"
+ofReport = 14 ∷ 13 ∷ 12 ∷ []
 
 -- what a call that writes a frame answers and leaves: one of its numbers, and refused nothing differs
 abbrev pub Writes : List ℕ → CountPaper → List ℕ → List ℕ → Type 0
@@ -69,33 +113,33 @@ Leaves numbers old p new = (carries numbers (p .number) (p .accepted) ≡ true) 
 
 pub record Demand1 : Type 0 where
   pub reading : (s : List ℕ) (r : Read) → readPaper r ≡ readPaper (readFrame s) → carries ofReading (readPaper r .number) (readPaper r .kind) ≡ true
-  pub lengths : (s old : List ℕ) (r : Listed) (new : List ℕ) → Lists s old r new → Writes (ofReading ++ (12 ∷ [])) (listedPaper r) old new
+  pub lengths : (s old : List ℕ) (r : Listed) (new : List ℕ) → Lists s old r new → Writes ofLengths (listedPaper r) old new
   pub writing-data : (stamp n e : ℕ) (p old : List ℕ) (r : Written) (new : List ℕ)
-      → Wrote (writeData stamp n e (length p) (length old)) (dataFrame stamp n e p) old r new → Writes (5 ∷ 20 ∷ 8 ∷ 12 ∷ []) (writtenPaper r) old new
+      → Wrote (writeData stamp n e (length p) (length old)) (dataFrame stamp n e p) old r new → Writes ofWritingData (writtenPaper r) old new
   pub writing-closing : (c : ClosingPdu) (old : List ℕ) (r : Written) (new : List ℕ)
-      → Wrote (writeClosing c (length old)) (closingFrame c) old r new → Writes (5 ∷ 8 ∷ 12 ∷ []) (writtenPaper r) old new
+      → Wrote (writeClosing c (length old)) (closingFrame c) old r new → Writes ofWritingClosing (writtenPaper r) old new
   pub writing-lengths : (c : ClosingPdu) (ls old : List ℕ) (r : Written) (new : List ℕ)
-      → Wrote (writeLengths c ls (length old)) (lengthsFrame c ls) old r new → Writes (5 ∷ 8 ∷ 22 ∷ 12 ∷ []) (writtenPaper r) old new
-  pub opening : (s : Sender) (stamp : ℕ) (r : Turning) → Turns (openCall s stamp) r → TurnsOn (21 ∷ 15 ∷ 5 ∷ 16 ∷ []) s r
-  pub renewing : (s : Sender) (r : Turning) → Turns (renewCall s) r → TurnsOn (21 ∷ 15 ∷ []) s r
+      → Wrote (writeLengths c ls (length old)) (lengthsFrame c ls) old r new → Writes ofWritingLengths (writtenPaper r) old new
+  pub opening : (s : Sender) (stamp : ℕ) (r : Turning) → Turns (openCall s stamp) r → TurnsOn ofOpening s r
+  pub renewing : (s : Sender) (r : Turning) → Turns (renewCall s) r → TurnsOn ofNewPeriod s r
   pub sending : (s : Sender) (p old : List ℕ) (r : Sending) (new : List ℕ)
       → Sends (dataCall s (length p) (length old)) (dataFrame (s .stamp) (s .number .0) (s .elapsed .0) p) old r new
-      → SendsOn (21 ∷ 15 ∷ 20 ∷ 17 ∷ 18 ∷ 19 ∷ 12 ∷ []) s r old new
+      → SendsOn ofData s r old new
   pub closing : (s : Sender) (old : List ℕ) (r : Sending) (new : List ℕ) → Sends (closeCall s (length old)) (closingFrame (closingBy s)) old r new
-      → SendsOn (21 ∷ 15 ∷ 12 ∷ []) s r old new
+      → SendsOn ofClosing s r old new
   pub closing-with-lengths : (s : Sender) (ls old : List ℕ) (r : Sending) (new : List ℕ)
-      → Sends (closeWithCall s ls (length old)) (lengthsFrame (closingBy s) ls) old r new → SendsOn (21 ∷ 15 ∷ 22 ∷ 12 ∷ []) s r old new
+      → Sends (closeWithCall s ls (length old)) (lengthsFrame (closingBy s) ls) old r new → SendsOn ofClosingLengths s r old new
   pub stamping : (tick start : ℕ) (r : Moment) → momentPaper r ≡ momentPaper (stampOf tick start)
-      → carries (23 ∷ []) (momentPaper r .number) (momentPaper r .accepted) ≡ true
+      → carries ofStamp (momentPaper r .number) (momentPaper r .accepted) ≡ true
   pub due-time : (start stamp : ℕ) (r : DueTime) → duePaper r ≡ duePaper (dueAt start stamp)
-      → carries (5 ∷ []) (duePaper r .number) (duePaper r .accepted) ≡ true
+      → carries ofDue (duePaper r .number) (duePaper r .accepted) ≡ true
   pub fresh-record : (bearer period stamp : ℕ) (marks elapsed sizes : List ℕ) (r : Taking) (m e s : List ℕ)
       → Takes (freshRecord bearer period stamp marks elapsed sizes) r m e s
-      → Leaves (14 ∷ 5 ∷ []) (unused marks elapsed sizes) (takenPaper (r .answer)) (keptIn (r .head) m e s)
+      → Leaves ofFresh (unused marks elapsed sizes) (takenPaper (r .answer)) (keptIn (r .head) m e s)
   pub hearing : (k : Kept) (bearer period : ℕ) (f : List ℕ) (r : Taking) (m e s : List ℕ) → Takes (hearFrame k bearer period f) r m e s
       → Leaves ofHearing k (takenPaper (r .answer)) (keptIn (r .head) m e s)
   pub joining : (a b : Kept) (r : Joining) (m e s : List ℕ) → Joins (joinRecords a b) r m e s
-      → Leaves (14 ∷ 13 ∷ 9 ∷ 11 ∷ []) a (joinedPaper (r .answer)) (keptIn (r .head) m e s)
+      → Leaves ofJoining a (joinedPaper (r .answer)) (keptIn (r .head) m e s)
   pub reporting : (k : Kept) (firsts counts octets : List ℕ) (r : Reported) (f c o : List ℕ) → Reports k firsts counts octets r f c o
-      → (carries (14 ∷ 13 ∷ 12 ∷ []) (reportedPaper r .number) (reportedPaper r .accepted) ≡ true)
+      → (carries ofReport (reportedPaper r .number) (reportedPaper r .accepted) ≡ true)
       × (reportedPaper r .accepted ≡ 0 → (f ≡ firsts) × (c ≡ counts) × (o ≡ octets))

@@ -21,7 +21,6 @@ use Rattle.reader.specs.Lists.{Lists}
 use Rattle.writer.specs.Promise.{Wrote}
 use Rattle.sender.specs.declared.Sender.{Sender}
 use Rattle.sender.specs.declared.Sending.{Sending}
-use Rattle.sender.specs.declared.Turning.{Turning}
 use Rattle.sender.specs.State.{freshSender, closingBy}
 use Rattle.sender.specs.Calls.{openCall, renewCall, dataCall, closeCall, closeWithCall, Turns, Sends}
 use Rattle.reception.specs.declared.Joining.{Joining}

@@ -1,6 +1,6 @@
 -- "Versions to be shut out" (document 01, "What the promises have to say"): no function that meets its promise is one of them. Assumes
 -- nothing.
-use Prim.Native.Nat.{ℕ, _+_, _≤_}
+use Prim.Native.Nat.{ℕ}
 use mathlib.Core.Path.{_≡_}
 use mathlib.Core.Bool.{true}
 use mathlib.Core.List.{List}
