@@ -34,10 +34,10 @@ bitsOf (x ∷ xs) = lowDigits 8 x ++ bitsOf xs
 unfoldable pub check : ℕ → ℕ → List ℕ → ℕ
 check g k xs = divide g k 0 (bitsOf xs ++ replicate k 0)
 
--- D^6 + D^5 + D^3 + D^2 + D + 1
+-- the header check, six bits (5.5.3.10): D^6 + D^5 + D^3 + D^2 + D + 1
 abbrev pub headerCheck : List ℕ → ℕ
 headerCheck = check 0b1101111 6
 
--- D^10 + D^9 + D^5 + D^4 + D + 1
+-- the payload check, ten bits (5.5.3.11): D^10 + D^9 + D^5 + D^4 + D + 1
 abbrev pub payloadCheck : List ℕ → ℕ
 payloadCheck = check 0b11000110011 10

@@ -12,6 +12,7 @@ pub record MomentPaper : Type 0 where
   pub accepted : ℕ
   pub stamp : ℕ
 
+-- "Stamp of a moment: 23"
 unfoldable pub momentPaper : Moment → MomentPaper
 momentPaper (Stamp n) = record { number = 0; accepted = 1; stamp = n }
 momentPaper (NoStamp r) = record { number = r .number; accepted = 0; stamp = 0 }
@@ -22,6 +23,7 @@ pub record DuePaper : Type 0 where
   pub accepted : ℕ
   pub tick : ℕ
 
+-- "Due time: 5"
 unfoldable pub duePaper : DueTime → DuePaper
 duePaper (At t) = record { number = 0; accepted = 1; tick = t }
 duePaper (NotDue r) = record { number = r .number; accepted = 0; tick = 0 }

@@ -48,13 +48,15 @@ ofReading = 1 ∷ 2 ∷ 3 ∷ 4 ∷ 5 ∷ 6 ∷ 7 ∷ 8 ∷ []
 abbrev pub ofLengths : List ℕ  -- "Reading the lengths of a Type 3 frame into a lent list: reading's order, 12"
 ofLengths = ofReading ++ (12 ∷ [])
 
--- "Writing a frame from given fields, without a sender: 5, 20, 8, 22, 12": of Types 1, 0 and 3
+-- "Writing a frame from given fields, without a sender: 5, 20, 8, 22, 12"; of Type 1
 abbrev pub ofWritingData : List ℕ
 ofWritingData = 5 ∷ 20 ∷ 8 ∷ 12 ∷ []
 
+-- of Type 0
 abbrev pub ofWritingClosing : List ℕ
 ofWritingClosing = 5 ∷ 8 ∷ 12 ∷ []
 
+-- of Type 3
 abbrev pub ofWritingLengths : List ℕ
 ofWritingLengths = 5 ∷ 8 ∷ 22 ∷ 12 ∷ []
 
@@ -67,10 +69,11 @@ ofNewPeriod = 21 ∷ 15 ∷ []
 abbrev pub ofData : List ℕ  -- "Data: 21, 15, 20, 17, 18, 19, 12"
 ofData = 21 ∷ 15 ∷ 20 ∷ 17 ∷ 18 ∷ 19 ∷ 12 ∷ []
 
--- "Closing: 21, 15, 22 for Type 3, 12"
+-- "Closing: 21, 15, 22 for Type 3, 12"; of Type 0
 abbrev pub ofClosing : List ℕ
 ofClosing = 21 ∷ 15 ∷ 12 ∷ []
 
+-- of Type 3
 abbrev pub ofClosingLengths : List ℕ
 ofClosingLengths = 21 ∷ 15 ∷ 22 ∷ 12 ∷ []
 
@@ -102,6 +105,7 @@ SendsOn numbers s r old new =
     (carries numbers (writtenPaper (r .answer) .number) (writtenPaper (r .answer) .accepted) ≡ true)
     × (writtenPaper (r .answer) .accepted ≡ 0 → (r .sender ≡ s) × (new ≡ old))
 
+-- what a call of the sender does that writes nothing
 abbrev pub TurnsOn : List ℕ → Sender → Turning → Type 0
 TurnsOn numbers s r =
     (carries numbers (turnedPaper (r .answer) .number) (turnedPaper (r .answer) .accepted) ≡ true)
@@ -111,6 +115,7 @@ TurnsOn numbers s r =
 abbrev pub Leaves : List ℕ → Kept → CountPaper → Kept → Type 0
 Leaves numbers old p new = (carries numbers (p .number) (p .accepted) ≡ true) × (p .accepted ≡ 0 → new ≡ old)
 
+-- the demand, call by call: of any outcome that meets the promise
 pub record Demand1 : Type 0 where
   pub reading : (s : List ℕ) (r : Read) → readPaper r ≡ readPaper (readFrame s) → carries ofReading (readPaper r .number) (readPaper r .kind) ≡ true
   pub lengths : (s old : List ℕ) (r : Listed) (new : List ℕ) → Lists s old r new → Writes ofLengths (listedPaper r) old new

@@ -37,6 +37,7 @@ pub record SpareZero (s : List ℕ) : Type 0 where
 abbrev pub dataPdu : ℕ → ℕ → ℕ → List ℕ → DataPdu
 dataPdu stamp n e p = record { stamp = stamp; number = record { 0 = n }; elapsed = record { 0 = e }; length = record { 0 = length p } }
 
+-- the demand
 pub record Demand2 : Type 0 where
   -- what is accepted has both checks, and says what its octets say at their places
   pub checked : (s : List ℕ) (r : Read) → ReadAs s r → (readPaper r .kind ≡ 0 → ⊥) → BothChecks s × (r ≡ said (typeOf s) s)

@@ -42,6 +42,7 @@ abbrev pub HeardAs : Kept → ℕ → ℕ → List ℕ → Outcome → Type 0
 HeardAs k bearer period f o =
     Takes (hearFrame k bearer period f) (record { answer = o .answer; head = o .kept .head }) (o .kept .marks) (o .kept .elapsed) (o .kept .sizes)
 
+-- the frame was accepted
 abbrev pub Taken : Outcome → Type 0
 Taken o = takenPaper (o .answer) .accepted ≡ 1
 
@@ -50,6 +51,7 @@ abbrev pub JoinedAs : Kept → Kept → JoinOutcome → Type 0
 JoinedAs a b o =
     Joins (joinRecords a b) (record { answer = o .answer; head = o .kept .head }) (o .kept .marks) (o .kept .elapsed) (o .kept .sizes)
 
+-- the join was
 abbrev pub Accepted : JoinOutcome → Type 0
 Accepted o = joinedPaper (o .answer) .accepted ≡ 1
 
@@ -67,6 +69,7 @@ pub record HoldsBoth (a b r : Held) : Type 0 where
   pub closing-right : b .closed ≡ true → (r .count ≡ b .count) × (r .total ≡ b .total)
   pub capacities : r .capacity ≡ a .capacity
 
+-- the demand
 pub record Demand3 : Type 0 where
   -- "Hearing an accepted frame adds exactly that frame to a record"
   pub packet-added : (k : Kept) (bearer period : ℕ) (f : List ℕ) (d : DataPdu) (o : Outcome) → readFrame f ≡ Data d → HeardAs k bearer period f o → Taken o

@@ -15,16 +15,19 @@ use Rattle.frame.specs.Writing.{dataFrame, closingFrame, lengthsFrame}
 use Rattle.reception.specs.Hearing.{emptyKept}
 use Rattle.reception.specs.Several.{answers, numberOf}
 
--- the frames as document 01 prints them
+-- "stamp 0, first packet, no payload", as document 01 prints it
 abbrev pub A : List ℕ
 A = 0x10 ∷ 0 ∷ 0 ∷ 0 ∷ 0 ∷ 0 ∷ 0 ∷ 0 ∷ 0 ∷ 0x38 ∷ 0 ∷ []
 
+-- "the same with payload 01"
 abbrev pub B : List ℕ
 B = 0x10 ∷ 0 ∷ 0 ∷ 0 ∷ 0 ∷ 0 ∷ 0 ∷ 0 ∷ 0 ∷ 0x3A ∷ 0x33 ∷ 0x01 ∷ []
 
+-- "Type 0 after B alone"
 abbrev pub C : List ℕ
 C = 0 ∷ 0 ∷ 0 ∷ 0 ∷ 1 ∷ 0 ∷ 0 ∷ 0 ∷ 1 ∷ 0 ∷ 0 ∷ 1 ∷ 0 ∷ 0 ∷ 0 ∷ 0 ∷ 1 ∷ 0x9C ∷ []
 
+-- "Type 3 instead", as document 01 prints it
 abbrev pub D-printed : List ℕ
 D-printed = 0x30 ∷ 0 ∷ 0 ∷ 0 ∷ 1 ∷ 0 ∷ 0 ∷ 0 ∷ 1 ∷ 0 ∷ 0 ∷ 1 ∷ 0 ∷ 0 ∷ 0 ∷ 0 ∷ 1 ∷ 0x02 ∷ 0x02 ∷ 0x00 ∷ 0x10 ∷ []
 
@@ -46,6 +49,7 @@ abbrev readPaperList : ReadPaper → List ℕ
 readPaperList p =
     p .number ∷ p .kind ∷ p .stamp ∷ p .packet ∷ p .elapsed ∷ p .packets ∷ p .octets ∷ p .payload ∷ []
 
+-- of octets
 abbrev pub reading : List ℕ → List ℕ
 reading s = readPaperList (readPaper (readFrame s))
 
@@ -57,6 +61,7 @@ hearing frames = map numberOf (answers (emptyKept 7 3 0 3) 7 3 frames)
 abbrev dueList : DuePaper → List ℕ
 dueList p = p .number ∷ p .tick ∷ []
 
+-- of a start and a stamp
 abbrev pub due : ℕ → ℕ → List ℕ
 due start stamp = dueList (duePaper (dueAt start stamp))
 
@@ -65,6 +70,7 @@ abbrev signed : ℤ → List ℕ
 signed (pos n) = 0 ∷ n ∷ []
 signed (negsuc n) = 1 ∷ suc n ∷ []
 
+-- of an arrival and a due time
 abbrev pub lateness : ℕ → ℕ → List ℕ
 lateness arrival at = signed (late arrival at)
 
@@ -74,9 +80,11 @@ pub record Row : Type 0 where
   pub printed : List ℕ
 
 infix 2 _gives_
+-- what is worked out, and then what the document has
 abbrev _gives_ : List ℕ → List ℕ → Row
 a gives b = record { worked = a; printed = b }
 
+-- "The starred examples are proved together as one table"
 abbrev pub table : List Row
 table =
     (dataFrame 0 0 0 [] gives A)

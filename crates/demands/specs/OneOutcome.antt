@@ -40,6 +40,7 @@ Fixes {A} P = (x y : A) → P x → P y → x ≡ y
 abbrev Lent : Type 0
 Lent = List ℕ
 
+-- for each function: its promise leaves one outcome
 pub record OneOutcome : Type 0 where
   pub header-check : (s : List ℕ) → Fixes (λ (r : ℕ). r ≡ headerCheck s)
   pub payload-check : (s : List ℕ) → Fixes (λ (r : ℕ). r ≡ payloadCheck s)

@@ -44,6 +44,7 @@ JoinsTwo f =
 abbrev pub Tells : (Kept → ℕ → Reported) → Type 0
 Tells f = (k : Kept) (room : ℕ) → reportedPaper (f k room) ≡ reportedPaper (reportRecord k room)
 
+-- each of the versions, and that it keeps no promise
 pub record ShutOut : Type 0 where
   -- "one refusing everything"
   pub refuses-all-frames : (f : List ℕ → Read) → Reads f → ((s : List ℕ) → readPaper (f s) .kind ≡ 0) → ⊥

@@ -8,6 +8,6 @@ use lib.ListN.{length, take, drop}
 unfoldable pub laid : List ℕ → ℕ → List ℕ → List ℕ
 laid old at xs = take at old ++ xs ++ drop (at + length xs) old
 
--- old, with xs in the place of its first octets
+-- old, with xs in the place of its first octets: "output beyond what was written is untouched"
 unfoldable pub front : List ℕ → List ℕ → List ℕ
 front old xs = xs ++ drop (length xs) old

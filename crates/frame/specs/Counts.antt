@@ -8,11 +8,11 @@ use Rattle.units.specs.Limits.{mostPayload, mostInSequence}
 use Rattle.frame.specs.declared.ClosingPdu.{ClosingPdu}
 use Rattle.frame.specs.Layout.{sumLengths}
 
--- two counts of which one is not zero
+-- two counts of which one is not zero, for the zeros that an undamaged sender or record holds
 unfoldable pub someOf : ℕ → ℕ → Bool
 someOf a b = not (eqb a 0) || not (eqb b 0)
 
--- "Type 1 with number 65,535; elapsed octets above 4,095 x Packet Number"
+-- "Type 1 with number 65,535; elapsed octets above 4,095 x Packet Number"; a given number or count too wide for its field is among them
 unfoldable pub dataWrong : ℕ → ℕ → Bool
 dataWrong n e = leb mostInSequence n || ltb (mostPayload * n) e
 
@@ -34,7 +34,7 @@ lengthsWrong s c = closingWrong c || not (eqb (sumLengths s (c .number .0)) (c .
 unfoldable pub tooWide : ClosingPdu → Bool
 tooWide c = leb (2 ^ 16) (c .number .0) || (leb (2 ^ 32) (c .elapsed .0) || (leb (2 ^ 24) (c .packets .0) || leb (2 ^ 40) (c .octets .0)))
 
--- given counts that are too wide, or impossible
+-- refusal 8 when writing: given counts that are too wide, or impossible; "a wrong sum of lengths is 22 here"
 unfoldable pub givenWrong : ClosingPdu → Bool
 givenWrong c = tooWide c || closingWrong c
 

@@ -83,7 +83,7 @@ unfoldable pub lengthsOf : List ℕ → ℕ → ℕ → List ℕ
 lengthsOf s i zero = []
 lengthsOf s i (suc n) = lengthAt s i ∷ lengthsOf s (suc i) n
 
--- what a data PDU says
+-- what a data PDU says: the fields "All types" have, and the payload's length
 abbrev pub dataOf : List ℕ → DataPdu
 dataOf s =
     record {
@@ -93,7 +93,7 @@ dataOf s =
       length = record { 0 = payloadLength s };
     }
 
--- what a closing PDU says
+-- what a closing PDU (Type 0 or 3) says: "Types 0 and 3 go on" with the totals; an extension is "dropped when read"
 abbrev pub closingOf : List ℕ → ClosingPdu
 closingOf s =
     record {

@@ -20,6 +20,7 @@ pub record ReadPaper : Type 0 where
   pub octets : ℕ
   pub payload : ℕ
 
+-- of a closing PDU of either type: it has no payload
 abbrev closingPaper : ℕ → ClosingPdu → ReadPaper
 closingPaper kind c =
     record {
@@ -33,6 +34,7 @@ closingPaper kind c =
       payload = 0;
     }
 
+-- "closing, data, closing with lengths, or a refusal number, each with its fields"
 unfoldable pub readPaper : Read → ReadPaper
 readPaper (Closing c) = closingPaper 1 c
 readPaper (Data d) =
@@ -56,10 +58,12 @@ pub record CountPaper : Type 0 where
   pub accepted : ℕ
   pub count : ℕ
 
+-- of writing: how many octets
 unfoldable pub writtenPaper : Written → CountPaper
 writtenPaper (Done n) = record { number = 0; accepted = 1; count = n }
 writtenPaper (NotWritten r) = record { number = r .number; accepted = 0; count = 0 }
 
+-- of reading lengths into a lent list: how many lengths
 unfoldable pub listedPaper : Listed → CountPaper
 listedPaper (Lengths n) = record { number = 0; accepted = 1; count = n .0 }
 listedPaper (NotListed r) = record { number = r .number; accepted = 0; count = 0 }

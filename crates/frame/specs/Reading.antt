@@ -44,13 +44,13 @@ countsWrong zero s = closingWrong (closingOf s)
 countsWrong (suc zero) s = dataWrong (numberOf s) (elapsedOf s)
 countsWrong (suc (suc t)) s = lengthsWrong s (closingOf s)
 
--- what a frame of each type says
+-- what a frame of each type says: "closing, data, closing with lengths"
 abbrev pub said : ℕ → List ℕ → Read
 said zero s = Closing (closingOf s)
 said (suc zero) s = Data (dataOf s)
 said (suc (suc t)) s = ClosingWithLengths (closingOf s)
 
--- a frame of type t whose header check and stamp are right
+-- "6; 7; 8": a frame of type t whose header check and stamp are right
 unfoldable pub readBody : ℕ → List ℕ → Read
 readBody t s =
     refuse sizeWrong when lengthWrong t s otherwise
@@ -58,14 +58,14 @@ readBody t s =
     refuse countsImpossible when countsWrong t s otherwise
     said t s
 
--- a frame of type t that has its least size
+-- "4; 5": a frame of type t that has its least size
 unfoldable pub readHeaded : ℕ → List ℕ → Read
 readHeaded t s =
     refuse headerCheckWrong when headerWrong (control t) s otherwise
     refuse stampTooHigh when ltb lastStamp (stampOf s) otherwise
     readBody t s
 
--- any octets
+-- "empty 1; 2; 3; too short 1": any octets
 unfoldable pub readFrame : List ℕ → Read
 readFrame s =
     refuse tooShort when eqb (length s) 0 otherwise

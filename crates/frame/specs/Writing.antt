@@ -51,7 +51,7 @@ lengthsFrame c ls = sealed (closingControl 3 c) (packed ls)
 abbrev pub refuseWrite : ℕ → Written
 refuseWrite n = Refused (refusing n)
 
--- a data PDU with a payload of l octets, into room octets
+-- "5, 20, 8, 12": a data PDU with a payload of l octets, into room octets
 unfoldable pub writeData : ℕ → ℕ → ℕ → ℕ → ℕ → Written
 writeData stamp n e l room =
     refuseWrite stampTooHigh when ltb lastStamp stamp otherwise
@@ -60,7 +60,7 @@ writeData stamp n e l room =
     refuseWrite noRoom when ltb room (11 + l) otherwise
     Done (11 + l)
 
--- a closing PDU of Type 0
+-- "5, 8, 12": a closing PDU of Type 0
 unfoldable pub writeClosing : ClosingPdu → ℕ → Written
 writeClosing c room =
     refuseWrite stampTooHigh when ltb lastStamp (c .stamp) otherwise
@@ -68,7 +68,7 @@ writeClosing c room =
     refuseWrite noRoom when ltb room 18 otherwise
     Done 18
 
--- a closing PDU of Type 3
+-- "5, 8, 22, 12": a closing PDU of Type 3
 unfoldable pub writeLengths : ClosingPdu → List ℕ → ℕ → Written
 writeLengths c ls room =
     refuseWrite stampTooHigh when ltb lastStamp (c .stamp) otherwise

@@ -19,6 +19,7 @@ le (suc w) s i = le w s i + getD s (i + w) 0 * 256 ^ w
 abbrev pub bodyLength : List ℕ → ℕ
 bodyLength s = le 2 s 0
 
+-- "Kind 1", "Kind 2"
 abbrev pub kind : List ℕ → ℕ
 kind s = le 2 s 2
 

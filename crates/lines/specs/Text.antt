@@ -33,6 +33,7 @@ value ds = valueBehind 0 ds
 unfoldable pub field : ℕ → List ℕ
 field n = 32 ∷ decimal n
 
+-- and several, one behind the other
 unfoldable pub fieldsOf : List ℕ → List ℕ
 fieldsOf [] = []
 fieldsOf (n ∷ ns) = field n ++ fieldsOf ns

@@ -61,10 +61,11 @@ answerText place (Refused r) = refusedLine place (r .number)
 abbrev pub frameStep : Between → ℕ → Outcome → Step
 frameStep b size t = record { text = answerText (counted (b .place + 1)) (t .answer); stops = false; next = after b size (t .kept) }
 
+-- what hearing answers and leaves: a frame item carries neither bearer nor period
 abbrev pub heardIn : Between → List ℕ → Outcome
 heardIn b frame = hearFrame (b .kept) (b .kept .head .bearer) (b .kept .head .period) frame
 
--- a key
+-- "begins a sequence of capacity 4,096 and prints the one before"
 abbrev pub keyStep : Between → Key → Step
 keyStep b k = record { text = accountBefore b; stops = false; next = after b 14 (emptyKept (k .bearer) (k .period) (k .stamp) places) }
 

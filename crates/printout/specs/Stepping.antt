@@ -11,6 +11,7 @@ use Rattle.printout.specs.declared.Going.{Going}
 use Rattle.printout.specs.declared.Went.{Went}
 use Rattle.printout.specs.Printed.{places, Between, Step}
 
+-- what the code keeps, and the three lists, as what is there between two items
 abbrev pub betweenIn : Going → List ℕ → List ℕ → List ℕ → Between
 betweenIn g marks elapsed sizes =
     record { begun = g .begun; kept = keptIn (g .head) marks elapsed sizes; place = g .place; offset = g .offset }

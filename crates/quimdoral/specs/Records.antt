@@ -19,7 +19,7 @@ use Rattle.reception.specs.Several.{numbersAfter}
 abbrev pub widest : ℕ
 widest = 4294967295
 
--- the head that stands for numbers that are no head's: no frame is taken into it, since its stamp is above 59,999
+-- the head that stands for numbers that are no head's: its stamp is above 59,999, so the record is damaged (refusal 13)
 abbrev pub noHead : Head
 noHead =
     record { bearer = 0; period = 0; stamp = widest; closed = false; count = record { 0 = 0 }; total = record { 0 = 0 } }
@@ -41,6 +41,7 @@ headOf ns =
       total = record { 0 = getD ns 5 0 };
     }
 
+-- the six numbers of a head
 abbrev pub numbersOf : Head → List ℕ
 numbersOf h = h .bearer ∷ h .period ∷ h .stamp ∷ cond (h .closed) 1 0 ∷ h .count .0 ∷ h .total .0 ∷ []
 

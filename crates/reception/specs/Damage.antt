@@ -45,5 +45,6 @@ closingOff closed n t capacity = ltb capacity n || (not closed && someOf n t)
 unfoldable pub walkFails : Held → Bool
 walkFails r = placesWrong r (r .capacity) || not (isExplained r)
 
+-- refusal 13: "A record is damaged exactly if", as a test
 unfoldable pub damagedRecord : ℕ → Held → Bool
 damagedRecord stamp r = ltb lastStamp stamp || (closingOff (r .closed) (r .count) (r .total) (r .capacity) || walkFails r)

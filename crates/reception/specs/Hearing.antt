@@ -30,9 +30,11 @@ pub record Kept : Type 0 where
   pub elapsed : List ℕ
   pub sizes : List ℕ
 
+-- a head and its three lists
 abbrev pub keptIn : Head → List ℕ → List ℕ → List ℕ → Kept
 keptIn h marks elapsed sizes = record { head = h; marks = marks; elapsed = elapsed; sizes = sizes }
 
+-- what they hold, place by place
 abbrev pub heldBy : Kept → Held
 heldBy k = heldIn (k .head) (k .marks) (k .elapsed) (k .sizes)
 
@@ -41,9 +43,11 @@ pub record Outcome : Type 0 where
   pub answer : Taken
   pub kept : Kept
 
+-- "All memory and state stay as before the call"
 abbrev pub refuses : Kept → ℕ → Outcome
 refuses k n = record { answer = Refused (refusing n); kept = k }
 
+-- an accepted call, with the record that it leaves
 abbrev pub takes : Kept → Outcome
 takes k = record { answer = Done; kept = k }
 
@@ -51,6 +55,7 @@ takes k = record { answer = Done; kept = k }
 unfoldable pub listsDiffer : ℕ → ℕ → ℕ → Bool
 listsDiffer marks elapsed sizes = ltb mostCapacity marks || (not (eqb elapsed marks) || not (eqb sizes marks))
 
+-- the same of a record
 abbrev pub unmatched : Kept → Bool
 unmatched k = listsDiffer (length (k .marks)) (length (k .elapsed)) (length (k .sizes))
 

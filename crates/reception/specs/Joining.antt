@@ -50,6 +50,7 @@ joinedHead a b =
       total = cond (a .closed) (a .total) (b .total);
     }
 
+-- and of all that a record is made of
 abbrev pub joinedKept : Kept → Kept → Kept
 joinedKept a b =
     keptIn (joinedHead (a .head) (b .head)) (chosen (a .marks) (a .marks) (b .marks)) (chosen (a .marks) (a .elapsed) (b .elapsed))
@@ -68,6 +69,7 @@ unfoldable pub lowestOff : Held → Held → ℕ → ℕ → ℕ
 lowestOff a b zero k = k
 lowestOff a b (suc n) k = cond (packetOff a b k) k (lowestOff a b n (suc k))
 
+-- among all places; the capacity where none does
 abbrev pub lowest : Held → Held → ℕ
 lowest a b = lowestOff a b (a .capacity) 0
 
@@ -76,6 +78,7 @@ pub record JoinOutcome : Type 0 where
   pub answer : Joined
   pub kept : Kept
 
+-- a refusal, and the left record as it was
 abbrev pub refusesJoin : Kept → ℕ → JoinOutcome
 refusesJoin k n = record { answer = Refused (refusing n); kept = k }
 
@@ -83,10 +86,11 @@ refusesJoin k n = record { answer = Refused (refusing n); kept = k }
 abbrev pub contradicts : Kept → ℕ → JoinOutcome
 contradicts k n = record { answer = Contradicted n; kept = k }
 
+-- an accepted join, with the record that it leaves
 abbrev pub joins : Kept → JoinOutcome
 joins k = record { answer = Done; kept = k }
 
--- refusal 14, of two records
+-- refusal 14, of two records: "capacities (or one record's lists) differ"
 abbrev pub capacitiesOff : Kept → Kept → Bool
 capacitiesOff a b = unmatched a || (unmatched b || not (eqb (length (a .marks)) (length (b .marks))))
 

@@ -30,11 +30,12 @@ unheardSum r s (suc n) = unheardSum r s n + cond (isHeard r n) 0 (getD s n 0)
 abbrev pub octetsFrom : List ℕ → ℕ → ℕ → ℕ
 octetsFrom s first count = sumOf (take count (drop first s))
 
--- the packets, and the octets, of some gaps
+-- the packets of some gaps
 unfoldable pub packetsIn : List Gap → ℕ
 packetsIn [] = 0
 packetsIn (g ∷ gs) = g .count + packetsIn gs
 
+-- and their octets
 unfoldable pub octetsIn : List Gap → ℕ
 octetsIn [] = 0
 octetsIn (g ∷ gs) = g .octets + octetsIn gs

@@ -25,19 +25,22 @@ unfoldable pub addParts : Held → List ℕ → List Part → Held
 addParts r s [] = r
 addParts r s (p ∷ ps) = addParts (addPart r s p) s ps
 
--- whether packet k, or the closing, was among the parts
+-- a part is packet k
 abbrev pub isPacket : ℕ → Part → Bool
 isPacket k (Packet j) = eqb k j
 isPacket k Closing = false
 
+-- it is the closing
 abbrev pub isClosing : Part → Bool
 isClosing (Packet j) = false
 isClosing Closing = true
 
+-- packet k was among the parts
 unfoldable pub came : ℕ → List Part → Bool
 came k [] = false
 came k (p ∷ ps) = isPacket k p || came k ps
 
+-- the closing was
 unfoldable pub closingCame : List Part → Bool
 closingCame [] = false
 closingCame (p ∷ ps) = isClosing p || closingCame ps

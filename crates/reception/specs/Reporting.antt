@@ -17,25 +17,29 @@ use Rattle.reception.specs.Walk.{isHeard}
 use Rattle.reception.specs.Neighbours.{endTo, octetsTo}
 use Rattle.reception.specs.Hearing.{Kept, heldBy, unmatched, damagedKept}
 
--- the packets heard below n, and their octets
+-- the packets heard below n
 unfoldable pub heardTo : Held → ℕ → ℕ
 heardTo r zero = 0
 heardTo r (suc n) = heardTo r n + cond (isHeard r n) 1 0
 
+-- and their octets
 unfoldable pub heardOctetsTo : Held → ℕ → ℕ
 heardOctetsTo r zero = 0
 heardOctetsTo r (suc n) = heardOctetsTo r n + cond (isHeard r n) (r .size n) 0
 
--- closed, the closing's N and T; "while open, sent reaches to the last packet heard and counts it; nothing heard gives zeros"
+-- packets sent: closed, the closing's N; "while open, sent reaches to the last packet heard and counts it; nothing heard gives zeros"
 abbrev pub sentPackets : Held → ℕ
 sentPackets r = cond (r .closed) (r .count) (endTo r (r .capacity))
 
+-- their octets: closed, the closing's T; while open, those to the end of the last packet heard
 abbrev pub sentOctets : Held → ℕ
 sentOctets r = cond (r .closed) (r .total) (octetsTo r (r .capacity))
 
+-- packets heard
 abbrev pub heardPackets : Held → ℕ
 heardPackets r = heardTo r (r .capacity)
 
+-- and their octets
 abbrev pub heardOctets : Held → ℕ
 heardOctets r = heardOctetsTo r (r .capacity)
 
@@ -56,6 +60,7 @@ gapsFrom r (suc n) k i a t =
     cond (isHeard r k) (gapTo i a k (r .elapsed k)) []
     ++ gapsFrom r n (suc k) (cond (isHeard r k) (suc k) i) (cond (isHeard r k) (r .elapsed k + r .size k) a) t
 
+-- "the gaps in rising order as first number, count, octets"
 abbrev pub gapsOf : Held → List Gap
 gapsOf r = gapsFrom r (sentPackets r) 0 0 0 (sentOctets r)
 
@@ -92,6 +97,7 @@ pub record ReportPaper : Type 0 where
   pub missingOctets : ℕ
   pub gaps : ℕ
 
+-- of a report, or why there is none
 unfoldable pub reportedPaper : Reported → ReportPaper
 reportedPaper (Done r) =
     record {

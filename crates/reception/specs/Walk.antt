@@ -18,9 +18,11 @@ fits i a k e l = leb l mostPayload && reach i a k e
 unfoldable pub mayEnd : Bool → ℕ → ℕ → ℕ → ℕ → Bool
 mayEnd closed n t i a = not closed || (leb i n && reach i a n t)
 
+-- the closing of a record
 abbrev pub ends : Held → ℕ → ℕ → Bool
 ends r i a = mayEnd (r .closed) (r .count) (r .total) i a
 
+-- "heard or not": a mark of 1 is heard
 abbrev pub isHeard : Held → ℕ → Bool
 isHeard r k = eqb (r .mark k) 1
 
@@ -31,6 +33,6 @@ walk r (suc n) k i a =
     (not (isHeard r k) || fits i a k (r .elapsed k) (r .size k))
     && walk r n (suc k) (cond (isHeard r k) (suc k) i) (cond (isHeard r k) (r .elapsed k + r .size k) a)
 
--- the walk over the whole record, from no octets before packet 0
+-- "no sending explains it" is this test failing: the walk over the whole record, from no octets before packet 0
 unfoldable pub isExplained : Held → Bool
 isExplained r = walk r (r .capacity) 0 0 0

@@ -96,7 +96,7 @@ closeCall s room =
     keeps s noRoom when ltb room 18 otherwise
     record { answer = Done 18; sender = closedSender s }
 
--- of Type 3
+-- the same of Type 3, with 22 before 12
 unfoldable pub closeWithCall : Sender → List ℕ → ℕ → Sending
 closeWithCall s ls room =
     keeps s senderDamaged when damaged s otherwise

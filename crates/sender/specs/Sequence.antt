@@ -14,11 +14,12 @@ unfoldable pub dataFrames : ℕ → ℕ → ℕ → List (List ℕ) → List (Li
 dataFrames stamp n e [] = []
 dataFrames stamp n e (p ∷ ps) = dataFrame stamp n e p ∷ dataFrames stamp (n + 1) (e + length p) ps
 
--- how many payloads, and how many octets in all
+-- how many payloads: "the count … of the whole sequence"
 unfoldable pub countOf : List (List ℕ) → ℕ
 countOf [] = 0
 countOf (p ∷ ps) = 1 + countOf ps
 
+-- and how many octets in all: "Headers and closing PDUs are not counted"
 unfoldable pub octetsOf : List (List ℕ) → ℕ
 octetsOf [] = 0
 octetsOf (p ∷ ps) = length p + octetsOf ps

@@ -36,7 +36,7 @@ damaged s =
     || (closingWrong (closingBy s)
     || restWrong (s .phase) s)))
 
--- a fresh sender
+-- a fresh sender: every number is zero
 abbrev pub freshSender : Sender
 freshSender =
     record { phase = Fresh; stamp = 0; number = record { 0 = 0 }; elapsed = record { 0 = 0 }; packets = record { 0 = 0 }; octets = record { 0 = 0 } }

@@ -37,6 +37,7 @@ badWord = 98 ∷ 97 ∷ 100 ∷ 32 ∷ 105 ∷ 110 ∷ 112 ∷ 117 ∷ 116 ∷ [
 abbrev pub closedWord : List ℕ
 closedWord = 32 ∷ 99 ∷ 108 ∷ 111 ∷ 115 ∷ 101 ∷ 100 ∷ []
 
+-- of a sequence of which no closing was heard
 abbrev pub openWord : List ℕ
 openWord = 32 ∷ 111 ∷ 112 ∷ 101 ∷ 110 ∷ []
 

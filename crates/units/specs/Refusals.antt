@@ -31,7 +31,7 @@ sizeWrong = 6
 abbrev pub payloadCheckWrong : ℕ
 payloadCheckWrong = 7
 
--- counts that no sending has
+-- counts that no sending has ("Impossible counts"), or that are too wide for their field
 abbrev pub countsImpossible : ℕ
 countsImpossible = 8
 
@@ -39,7 +39,7 @@ countsImpossible = 8
 abbrev pub otherSequence : ℕ
 otherSequence = 9
 
--- a packet number, or a closing count, beyond the capacity
+-- "packet number at or above capacity, or closing count above it"
 abbrev pub beyondCapacity : ℕ
 beyondCapacity = 10
 
@@ -55,7 +55,7 @@ noRoom = 12
 abbrev pub recordDamaged : ℕ
 recordDamaged = 13
 
--- lists of different lengths, or longer than 65,535
+-- "capacities (or one record's lists) differ, or one is above 65,535"
 abbrev pub capacitiesDiffer : ℕ
 capacitiesDiffer = 14
 
