@@ -50,7 +50,7 @@ fn main() {
     table(
         "payload check",
         &[
-            ("ours", Box::new(quimdoral::payload_check)),
+            ("ours", Box::new(quimdoral::checks::payload_check)),
             ("octet table", Box::new(|s| tables.by_octets(s))),
             ("slice-by-8", Box::new(|s| tables.by_slices::<8>(s))),
             ("slice-by-16", Box::new(|s| tables.by_slices::<16>(s))),
@@ -60,7 +60,7 @@ fn main() {
     table(
         "header check",
         &[
-            ("ours", Box::new(|s| u16::from(quimdoral::header_check(s)))),
+            ("ours", Box::new(|s| u16::from(quimdoral::checks::header_check(s)))),
             ("octet table", Box::new(|s| u16::from(header.by_octets(s)))),
         ],
         &[9, 17],

@@ -4,8 +4,9 @@ mod frames;
 #[path = "../peers/checks.rs"]
 mod peers;
 
-use frames::Reader;
+use frames::{Reader, told};
 use peers::Noise;
+use quimdoral::frames::read;
 use std::hint::black_box;
 use std::time::Instant;
 
@@ -19,14 +20,14 @@ fn main() {
         frame[0] = 0x10;
         frame.extend(Noise(5).octets(payload));
         reader.seal(&mut frame);
-        assert!(quimdoral::read_frame(&frame).is_ok());
-        assert_eq!(quimdoral::read_frame(&frame), reader.read(&frame));
+        assert!(read(&frame).is_ok());
+        assert_eq!(told(&frame), reader.read(&frame));
         let calls = 400_000 / (payload + 40) + 50;
         let (mut ours, mut plain) = (f64::INFINITY, f64::INFINITY);
         for _ in 0..ROUNDS {
             let start = Instant::now();
             for _ in 0..calls {
-                let _ = black_box(quimdoral::read_frame(black_box(&frame)));
+                let _ = black_box(read(black_box(&frame)));
             }
             ours = ours.min(start.elapsed().as_nanos() as f64 / calls as f64);
             let start = Instant::now();

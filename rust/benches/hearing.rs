@@ -9,7 +9,8 @@ mod peers;
 mod records;
 
 use frames::Reader;
-use quimdoral::{Key, Lists};
+use quimdoral::Key;
+use quimdoral::lent::{self, Lists};
 use records::PlainRecord;
 use std::hint::black_box;
 use std::time::Instant;
@@ -78,10 +79,10 @@ fn nanoseconds(start: Instant, frames: usize) -> f64 {
 /// lists directly, so that a round at a great capacity stays short and still meets records from empty to full.
 fn public(memory: &mut Memory, heard: &Heard, step: usize) -> f64 {
     let start = Instant::now();
-    assert_eq!(quimdoral::fresh(KEY, memory.lists()), Ok(()));
+    assert_eq!(lent::fresh(KEY, memory.lists()), Ok(()));
     for (place, (number, frame)) in heard.frames().enumerate() {
         if place % step == 0 {
-            let answer = quimdoral::hear(memory.lists(), KEY.bearer, KEY.period, black_box(frame));
+            let answer = lent::hear(memory.lists(), KEY.bearer, KEY.period, black_box(frame));
             assert_eq!(answer, Ok(()));
         } else {
             memory.put(number);
@@ -104,7 +105,7 @@ fn plain(record: &mut PlainRecord, reader: &Reader, heard: &Heard) -> f64 {
 fn in_one_call(memory: &mut Memory, heard: &Heard) -> f64 {
     let mut answers = vec![255; heard.ends.len()];
     let start = Instant::now();
-    let answer = quimdoral::hear_all(KEY, memory.lists(), black_box(&heard.octets), &heard.ends, &mut answers);
+    let answer = lent::hear_all(KEY, memory.lists(), black_box(&heard.octets), &heard.ends, &mut answers);
     let time = nanoseconds(start, heard.ends.len());
     assert_eq!(answer, Ok(()));
     assert!(answers.iter().all(|&answer| answer == 0));

@@ -14,10 +14,11 @@ mod records;
 #[path = "../peers/reports.rs"]
 mod reports;
 
-use joining::plain_join;
-use quimdoral::{Held, JoinRefusal, Lent, Lists, Report};
+use joining::{JoinRefusal, plain_join};
+use quimdoral::lent::{self, Held, Lent, Lists};
+use quimdoral::{Refusal, Report};
 use records::Written;
-use reports::{plain_report, Room};
+use reports::{Room, plain_report};
 use std::hint::black_box;
 use std::time::Instant;
 
@@ -83,7 +84,7 @@ impl Pair {
     }
 
     fn race(&self, rounds: usize) -> Best {
-        let library = |left: &mut Written, right: &Written| quimdoral::join(lists(left), held(right));
+        let library = |left: &mut Written, right: &Written| lent::join(lists(left), held(right)).map_err(JoinRefusal::from);
         let (mut ours, mut theirs) = (self.left.clone(), self.left.clone());
         assert_eq!(library(&mut ours, &self.right), plain_join(&mut theirs, &self.right));
         assert!(ours == theirs, "the records differ");
@@ -121,12 +122,12 @@ fn race_reports(record: &Written, rounds: usize) -> Best {
     let times = 65_536 / capacity;
     let mut room = Room { firsts: vec![0; capacity], counts: vec![0; capacity], octets: vec![0; capacity], figures: vec![0; 7] };
     let mut report = Report::default();
-    assert_eq!(quimdoral::report(held(record)), plain_report(record, &mut report).map(|()| report.clone()));
+    assert_eq!(Report::of(held(record)).map_err(Refusal::number), plain_report(record, &mut report).map(|()| report.clone()));
     let library = || {
         let start = Instant::now();
         for _ in 0..times {
             let Room { firsts, counts, octets, figures } = &mut room;
-            let answer = quimdoral::report_into(held(black_box(record)), Lent { firsts, counts, octets, figures });
+            let answer = lent::report(held(black_box(record)), Lent { firsts, counts, octets, figures });
             assert_eq!(answer, Ok(()));
         }
         a_place(start, capacity * times)

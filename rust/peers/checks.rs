@@ -58,8 +58,8 @@ impl Tables {
         let mut slices = octets.chunks_exact(N);
         for slice in &mut slices {
             let slice: &[u8; N] = slice.try_into().expect("chunks of N octets");
-            let mut next = self.0[N - 1][usize::from(slice[0] ^ (check >> 2) as u8)]
-                ^ self.0[N - 2][usize::from(slice[1] ^ (check << 6) as u8)];
+            let mut next =
+                self.0[N - 1][usize::from(slice[0] ^ (check >> 2) as u8)] ^ self.0[N - 2][usize::from(slice[1] ^ (check << 6) as u8)];
             for place in 2..N {
                 next ^= self.0[N - 1 - place][usize::from(slice[place])];
             }

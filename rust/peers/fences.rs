@@ -3,7 +3,7 @@
 
 use crate::records::Written;
 use crate::reports::Room;
-use quimdoral::{Held, Lent, Lists};
+use quimdoral::lent::{Held, Lent, Lists};
 
 const FENCE: u8 = 0xA5;
 

@@ -2,7 +2,57 @@
 #![allow(dead_code)]
 
 use crate::peers::{HeaderTable, Tables};
-use quimdoral::{Closing, Data, Frame};
+
+/// The fields of a data PDU (Type 1), with its payload's length.
+#[derive(Clone, Copy, Debug, PartialEq, Eq)]
+pub struct Data {
+    pub stamp: u32,
+    pub number: u32,
+    pub elapsed: u64,
+    pub length: u32,
+}
+
+/// The fields of a closing PDU (Types 0 and 3).
+#[derive(Clone, Copy, Debug, PartialEq, Eq)]
+pub struct Closing {
+    pub stamp: u32,
+    pub number: u32,
+    pub elapsed: u64,
+    pub total_packets: u32,
+    pub total_octets: u64,
+}
+
+/// What an accepted frame says.
+#[derive(Clone, Copy, Debug, PartialEq, Eq)]
+pub enum Frame {
+    Closing(Closing),
+    Data(Data),
+    ClosingWithLengths(Closing),
+}
+
+impl From<quimdoral::Closing> for Closing {
+    fn from(said: quimdoral::Closing) -> Closing {
+        let quimdoral::Closing { stamp, number, elapsed, total_packets, total_octets } = said;
+        Closing { stamp, number: number.0, elapsed: elapsed.0, total_packets: total_packets.0, total_octets: total_octets.0 }
+    }
+}
+
+impl From<quimdoral::Frame<'_>> for Frame {
+    fn from(said: quimdoral::Frame) -> Frame {
+        match said {
+            quimdoral::Frame::Data(quimdoral::Data { stamp, number, elapsed, payload }) => {
+                Frame::Data(Data { stamp, number: number.0, elapsed: elapsed.0, length: payload.len() as u32 })
+            }
+            quimdoral::Frame::Closing(closing) => Frame::Closing(closing.into()),
+            quimdoral::Frame::ClosingWithLengths(closing) => Frame::ClosingWithLengths(closing.into()),
+        }
+    }
+}
+
+/// What the library read, or the number of its refusal.
+pub fn told(frame: &[u8]) -> Result<Frame, u8> {
+    quimdoral::frames::read(frame).map(Frame::from).map_err(quimdoral::Refusal::number)
+}
 
 pub struct Reader {
     header: HeaderTable,
@@ -90,13 +140,7 @@ impl Reader {
         if packets < packet || octets < elapsed || octets - elapsed > 4_095 * (packets - packet) {
             return Err(8);
         }
-        let closing = Closing {
-            stamp: stamp as u32,
-            number: packet as u32,
-            elapsed,
-            total_packets: packets as u32,
-            total_octets: octets,
-        };
+        let closing = Closing { stamp: stamp as u32, number: packet as u32, elapsed, total_packets: packets as u32, total_octets: octets };
         if kind == 0 {
             return Ok(Frame::Closing(closing));
         }

@@ -1,8 +1,32 @@
 //! The join of document 01, written on its own and twice: word for word, and as a plain Rust program would do it.
 #![allow(dead_code)]
 
-use crate::records::{carry, Written, LONGEST};
-use quimdoral::{Closing, Data, Frame, JoinRefusal};
+use crate::frames::{Closing, Data, Frame};
+use crate::records::{LONGEST, Written, carry};
+
+/// Why a join was refused, in numbers.
+#[derive(Clone, Copy, Debug, PartialEq, Eq)]
+pub enum JoinRefusal {
+    Refused(u8),
+    Packet(u32),
+    Closing,
+}
+
+impl JoinRefusal {
+    pub fn number(self) -> u8 {
+        if let JoinRefusal::Refused(number) = self { number } else { 11 }
+    }
+}
+
+impl From<quimdoral::JoinRefusal> for JoinRefusal {
+    fn from(said: quimdoral::JoinRefusal) -> JoinRefusal {
+        match said {
+            quimdoral::JoinRefusal::Refused(refusal) => JoinRefusal::Refused(refusal.number()),
+            quimdoral::JoinRefusal::Packet(packet) => JoinRefusal::Packet(packet.0),
+            quimdoral::JoinRefusal::Closing => JoinRefusal::Closing,
+        }
+    }
+}
 
 impl Written {
     /// Tries each packet of the right alone, from the lowest, then its closing; then hears them all.

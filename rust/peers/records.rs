@@ -1,8 +1,7 @@
 //! The reception record of document 01, written on its own and twice: word for word, and as a plain Rust program would keep it.
 #![allow(dead_code)]
 
-use crate::frames::Reader;
-use quimdoral::{Closing, Data, Frame};
+use crate::frames::{Closing, Data, Frame, Reader};
 
 pub const LONGEST: u64 = 4_095;
 const MOST: usize = 65_535;
@@ -175,9 +174,8 @@ impl Written {
         }
         let is_sending = lengths.len() <= MOST && lengths.iter().all(|&length| length <= LONGEST);
         let mut heard = (0..self.marks.len()).filter(|&place| self.marks[place] == 1);
-        let packets_right = heard.all(|place| {
-            lengths.get(place) == Some(&self.sizes[place].into()) && before[place] == u64::from(self.elapsed[place])
-        });
+        let packets_right =
+            heard.all(|place| lengths.get(place) == Some(&self.sizes[place].into()) && before[place] == u64::from(self.elapsed[place]));
         let whole = [lengths.len() as u64, before[lengths.len()]];
         is_sending && packets_right && (!self.closed() || self.head[4..6] == whole)
     }

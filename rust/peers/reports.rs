@@ -2,7 +2,7 @@
 #![allow(dead_code)]
 
 use crate::joining::plain_damaged;
-use crate::records::{sending_within, Written};
+use crate::records::{Written, sending_within};
 use quimdoral::{Amount, Gap, Octets, Packets, Report};
 
 /// The memory that is lent for a report.
@@ -26,7 +26,7 @@ impl Room {
         figures.push(report.gaps.len() as u64);
         self.figures[..7].copy_from_slice(&figures);
         for (at, gap) in report.gaps.iter().enumerate() {
-            (self.firsts[at], self.counts[at], self.octets[at]) = (gap.first, gap.count.0, gap.octets.0);
+            (self.firsts[at], self.counts[at], self.octets[at]) = (gap.first.0, gap.count.0, gap.octets.0);
         }
     }
 }
@@ -61,7 +61,7 @@ impl Written {
             }
             count(&mut report.missing, length);
             if place == 0 || self.marks[place - 1] == 1 {
-                report.gaps.push(Gap { first: place as u32, count: Packets(0), octets: Octets(0) });
+                report.gaps.push(Gap { first: Packets(place as u32), count: Packets(0), octets: Octets(0) });
             }
             let gap = report.gaps.last_mut().expect("a gap was begun");
             gap.count.0 += 1;
@@ -107,6 +107,6 @@ pub fn plain_report(record: &Written, report: &mut Report) -> Result<(), u8> {
 /// Adds what lies between the end of one packet and the start of another, if a packet does.
 fn push_gap(gaps: &mut Vec<Gap>, (after, from): (u32, u64), (place, start): (u32, u64)) {
     if place > after {
-        gaps.push(Gap { first: after, count: Packets(place - after), octets: Octets(start - from) });
+        gaps.push(Gap { first: Packets(after), count: Packets(place - after), octets: Octets(start - from) });
     }
 }

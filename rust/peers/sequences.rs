@@ -5,7 +5,8 @@ use crate::frames::Reader;
 use crate::generate;
 use crate::peers::Noise;
 use crate::records::Written;
-use quimdoral::{Held, Key, Lists};
+use quimdoral::lent::{Held, Lists};
+use quimdoral::{Key, Refusal};
 
 pub const LONGEST: u64 = 4_095;
 
@@ -206,6 +207,11 @@ pub fn drop_one(noise: &mut Noise, record: &mut Written) {
         4 => drop(record.elapsed.pop()),
         _ => drop(record.sizes.pop()),
     }
+}
+
+/// An answer of the library with the refusal's number, as the peers give it.
+pub fn numbered<T>(answer: Result<T, Refusal>) -> Result<T, u8> {
+    answer.map_err(Refusal::number)
 }
 
 /// How often each answer came, by the refusal's number.

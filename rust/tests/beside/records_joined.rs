@@ -1,28 +1,12 @@
 //! Compiled joins beside joins written on their own from document 01: one sequence, contradicting ones, damaged lists, and the laws.
-#[path = "../peers/fences.rs"]
-mod fences;
-#[path = "../peers/frames.rs"]
-mod frames;
-#[path = "../peers/generate.rs"]
-mod generate;
-#[path = "../peers/joining.rs"]
-mod joining;
-#[path = "../peers/checks.rs"]
-mod peers;
-#[path = "../peers/records.rs"]
-mod records;
-#[path = "../peers/reports.rs"]
-mod reports;
-#[path = "../peers/sequences.rs"]
-mod sequences;
 
-use fences::FencedRecord;
-use frames::Reader;
-use joining::plain_join;
-use peers::Noise;
-use quimdoral::{JoinRefusal, Key, Record};
-use records::Written;
-use sequences::{any_capacity, at_a_bound, below, damage, held, lists, next_to, one_in, put, Sequence, DAMAGES, LONGEST};
+use crate::fences::FencedRecord;
+use crate::frames::Reader;
+use crate::joining::{JoinRefusal, plain_join};
+use crate::peers::Noise;
+use crate::records::Written;
+use crate::sequences::{DAMAGES, LONGEST, Sequence, any_capacity, at_a_bound, below, damage, held, lists, next_to, one_in, put};
+use quimdoral::{Key, Record, lent};
 use std::hint::black_box;
 
 /// How often each answer came, by the refusal's number, and what the contradictions named.
@@ -56,10 +40,12 @@ impl Tally {
 
 /// Joins with the library and compares the answer and all memory with what is expected, fences on every side included.
 fn join_as_expected(
-    left: &mut Written, right: &Written, expect: impl Fn(&mut Written, &Written) -> Result<(), JoinRefusal>,
+    left: &mut Written,
+    right: &Written,
+    expect: impl Fn(&mut Written, &Written) -> Result<(), JoinRefusal>,
 ) -> Result<(), JoinRefusal> {
     let (mut ours, mut theirs) = (FencedRecord::around(left), FencedRecord::around(right));
-    let answer = quimdoral::join(ours.lists(), theirs.held());
+    let answer = lent::join(ours.lists(), theirs.held()).map_err(JoinRefusal::from);
     let before = left.clone();
     let expected = expect(left, right);
     assert!(answer == expected, "{answer:?}, expected {expected:?}: left {before:?}, right {right:?}");
@@ -80,7 +66,7 @@ fn join_alike(left: &mut Written, right: &Written) -> Result<(), JoinRefusal> {
 /// Joins with the library alone.
 fn joined(left: &Written, right: &Written) -> Result<Written, JoinRefusal> {
     let mut both = left.clone();
-    quimdoral::join(lists(&mut both), held(right))?;
+    lent::join(lists(&mut both), held(right))?;
     Ok(both)
 }
 
@@ -277,8 +263,8 @@ fn joining_is_hearing_what_both_heard() {
     let (reader, mut noise) = (Reader::new(), Noise(41));
     for _ in 0..1_000 {
         let sequence = Sequence::any(&mut noise, 20);
-        let Key { bearer, period, stamp } = sequence.key;
-        let fresh = Record::fresh(bearer, period, stamp, sequence.lengths.len()).unwrap();
+        let Key { bearer, period, .. } = sequence.key;
+        let fresh = Record::fresh(sequence.key, sequence.lengths.len()).unwrap();
         let (mut here, mut there, mut all) = (fresh.clone(), fresh.clone(), fresh);
         for _ in 0..20 {
             let frame = sequence.good(&mut noise, &reader);

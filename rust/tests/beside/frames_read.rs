@@ -1,13 +1,8 @@
 //! Compiled reading beside a plain Rust reader that was written on its own, on frames near every limit, and on damaged ones.
-#[path = "../peers/frames.rs"]
-mod frames;
-#[path = "../peers/generate.rs"]
-mod generate;
-#[path = "../peers/checks.rs"]
-mod peers;
 
-use frames::Reader;
-use peers::Noise;
+use crate::frames::{Frame, Reader, told};
+use crate::generate;
+use crate::peers::Noise;
 
 #[test]
 fn a_million_frames_are_read_alike() {
@@ -17,12 +12,12 @@ fn a_million_frames_are_read_alike() {
     let mut refused = [0usize; 9];
     for _ in 0..1_000_000 {
         let frame = generate::any(&mut noise, &reader);
-        let ours = quimdoral::read_frame(&frame);
+        let ours = told(&frame);
         assert_eq!(ours, reader.read(&frame), "{frame:02X?}");
         match ours {
-            Ok(quimdoral::Frame::Closing(_)) => accepted[0] += 1,
-            Ok(quimdoral::Frame::Data(_)) => accepted[1] += 1,
-            Ok(quimdoral::Frame::ClosingWithLengths(_)) => accepted[2] += 1,
+            Ok(Frame::Closing(_)) => accepted[0] += 1,
+            Ok(Frame::Data(_)) => accepted[1] += 1,
+            Ok(Frame::ClosingWithLengths(_)) => accepted[2] += 1,
             Err(number) => refused[number as usize] += 1,
         }
     }

@@ -1,23 +1,10 @@
 //! The account program as it is run: the samples beside their texts, and generated inputs beside a plain Rust program.
-#[path = "../peers/account.rs"]
-mod account;
-#[path = "../peers/frames.rs"]
-mod frames;
-#[path = "../peers/generate.rs"]
-mod generate;
-#[path = "../peers/items.rs"]
-mod items;
-#[path = "../peers/checks.rs"]
-mod peers;
-#[path = "../peers/records.rs"]
-mod records;
-#[path = "../peers/sequences.rs"]
-mod sequences;
 
-use frames::Reader;
-use peers::Noise;
+use crate::frames::Reader;
+use crate::peers::Noise;
+use crate::sequences::{LONGEST, Sequence, any_length, below, next_to, one_in};
+use crate::{account, generate, items};
 use quimdoral::Key;
-use sequences::{any_length, below, next_to, one_in, Sequence, LONGEST};
 use std::collections::BTreeSet;
 use std::fs;
 use std::io::{ErrorKind, Read, Write};

@@ -1,25 +1,16 @@
 //! Compiled records beside records written on their own from document 01: good frames, contradicting ones, and damaged lists.
-#[path = "../peers/frames.rs"]
-mod frames;
-#[path = "../peers/generate.rs"]
-mod generate;
-#[path = "../peers/checks.rs"]
-mod peers;
-#[path = "../peers/records.rs"]
-mod records;
-#[path = "../peers/sequences.rs"]
-mod sequences;
 
-use frames::Reader;
-use peers::Noise;
-use quimdoral::Key;
-use records::{PlainRecord, Written};
-use sequences::{any_capacity, at_a_bound, below, damage, lists, next_to, one_in, Sequence, Tally, DAMAGES, LONGEST};
+use crate::frames::Reader;
+use crate::generate;
+use crate::peers::Noise;
+use crate::records::{PlainRecord, Written};
+use crate::sequences::{DAMAGES, LONGEST, Sequence, Tally, any_capacity, at_a_bound, below, damage, lists, next_to, numbered, one_in};
+use quimdoral::{Key, Record, lent};
 
 /// Hears with the library and with the peer, and compares the answers and every number of the record afterwards.
 fn hear_alike(record: &mut Written, reader: &Reader, (bearer, period): (u32, u32), frame: &[u8]) -> Result<(), u8> {
     let mut ours = record.clone();
-    let answer = quimdoral::hear(lists(&mut ours), bearer, period, frame);
+    let answer = numbered(lent::hear(lists(&mut ours), bearer, period, frame));
     let before = record.clone();
     let expected = record.hear(reader, bearer, period, frame);
     let input = || format!("bearer {bearer}, period {period}, frame {:02X?}, record {before:?}", &frame[..frame.len().min(24)]);
@@ -31,7 +22,7 @@ fn hear_alike(record: &mut Written, reader: &Reader, (bearer, period): (u32, u32
 
 fn fresh_alike(record: &mut Written, Key { bearer, period, stamp }: Key) -> Result<(), u8> {
     let mut ours = record.clone();
-    let answer = quimdoral::fresh(Key { bearer, period, stamp }, lists(&mut ours));
+    let answer = numbered(lent::fresh(Key { bearer, period, stamp }, lists(&mut ours)));
     assert_eq!(answer, record.fresh(bearer, period, stamp), "key {bearer} {period} {stamp}, capacity {}", record.marks.len());
     assert!(ours == *record, "the records differ: key {bearer} {period} {stamp}, capacity {}", record.marks.len());
     answer
@@ -219,7 +210,7 @@ fn hear_all_alike(noise: &mut Noise, reader: &Reader) -> Result<(), u8> {
     let before = ours.clone();
     let room = ends.len() + 2 - below(noise, 4) as usize % (ends.len() + 3);
     let mut numbers = vec![77; room];
-    let answer = quimdoral::hear_all(sequence.key, lists(&mut ours), &octets, &ends, &mut numbers);
+    let answer = numbered(lent::hear_all(sequence.key, lists(&mut ours), &octets, &ends, &mut numbers));
     assert_eq!(answer, if room < ends.len() { Err(12) } else { Ok(()) });
     if answer.is_ok() {
         assert_eq!((&numbers[..ends.len()], &numbers[ends.len()..]), (&told[..], &[77; 3][..room - ends.len()]));
@@ -349,10 +340,10 @@ fn examples_g_and_h() {
     let reader = Reader::new();
     let b = [0x10, 0, 0, 0, 0, 0, 0, 0, 0, 0x3A, 0x33, 0x01];
     for (number, elapsed, expected) in [(1, 2, Err(11)), (2, 1, Ok(())), (2, 4_096, Ok(())), (2, 4_097, Err(11))] {
-        let mut record = quimdoral::Record::fresh(7, 3, 0, 4).unwrap();
+        let mut record = Record::fresh(Key { bearer: 7, period: 3, stamp: 0 }, 4).unwrap();
         assert_eq!(record.hear(7, 3, &b), Ok(()));
         let before = record.clone();
-        assert_eq!(record.hear(7, 3, &generate::data(&reader, 0, number, elapsed, 5)), expected);
+        assert_eq!(numbered(record.hear(7, 3, &generate::data(&reader, 0, number, elapsed, 5))), expected);
         assert_eq!(record == before, expected.is_err());
     }
 }

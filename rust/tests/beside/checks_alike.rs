@@ -1,12 +1,11 @@
 //! The compiled checks beside long division bit by bit: what no proof covers is the compiler's back end.
-#[path = "../peers/checks.rs"]
-mod peers;
 
-use peers::{by_bits, HeaderTable, Noise, Tables, HEADER, PAYLOAD};
+use crate::peers::{HEADER, HeaderTable, Noise, PAYLOAD, Tables, by_bits};
+use quimdoral::checks::{header_check, payload_check};
 
 fn agree(octets: &[u8]) {
-    assert_eq!(u32::from(quimdoral::header_check(octets)), by_bits(HEADER, octets), "header check of {octets:02X?}");
-    assert_eq!(u32::from(quimdoral::payload_check(octets)), by_bits(PAYLOAD, octets), "payload check of {octets:02X?}");
+    assert_eq!(u32::from(header_check(octets)), by_bits(HEADER, octets), "header check of {octets:02X?}");
+    assert_eq!(u32::from(payload_check(octets)), by_bits(PAYLOAD, octets), "payload check of {octets:02X?}");
 }
 
 #[test]

@@ -1,28 +1,12 @@
 //! Compiled reports beside reports counted over a sending: one sequence with losses, damaged lists, lists too short, and the laws.
-#[path = "../peers/fences.rs"]
-mod fences;
-#[path = "../peers/frames.rs"]
-mod frames;
-#[path = "../peers/generate.rs"]
-mod generate;
-#[path = "../peers/joining.rs"]
-mod joining;
-#[path = "../peers/checks.rs"]
-mod peers;
-#[path = "../peers/records.rs"]
-mod records;
-#[path = "../peers/reports.rs"]
-mod reports;
-#[path = "../peers/sequences.rs"]
-mod sequences;
 
-use fences::{FencedRecord, FencedRoom};
-use frames::Reader;
-use peers::Noise;
-use quimdoral::{Amount, Gap, Key, Octets, Packets, Record, Report};
-use records::Written;
-use reports::{plain_report, Room};
-use sequences::{any_capacity, at_a_bound, below, damage, held, lists, one_in, put, Sequence, Tally, DAMAGES, LONGEST};
+use crate::fences::{FencedRecord, FencedRoom};
+use crate::frames::Reader;
+use crate::peers::Noise;
+use crate::records::Written;
+use crate::reports::{Room, plain_report};
+use crate::sequences::{DAMAGES, LONGEST, Sequence, Tally, any_capacity, at_a_bound, below, damage, held, lists, numbered, one_in, put};
+use quimdoral::{Amount, Gap, Key, Octets, Packets, Record, Report, lent};
 use std::hint::black_box;
 
 fn amount(packets: u32, octets: u64) -> Amount {
@@ -30,7 +14,7 @@ fn amount(packets: u32, octets: u64) -> Amount {
 }
 
 fn gap(first: u32, count: u32, octets: u64) -> Gap {
-    Gap { first, count: Packets(count), octets: Octets(octets) }
+    Gap { first: Packets(first), count: Packets(count), octets: Octets(octets) }
 }
 
 /// Lent memory full of noise, with so many places in each list.
@@ -59,7 +43,7 @@ fn any_room(noise: &mut Noise, gaps: usize) -> Room {
 /// Reports with the library and with the peer into the same memory, and compares the answers and all memory, fences included.
 fn report_alike(record: &Written, room: &mut Room) -> Result<(), u8> {
     let (mut ours, mut theirs) = (FencedRoom::around(room), FencedRecord::around(record));
-    let answer = quimdoral::report_into(theirs.held(), ours.lent());
+    let answer = numbered(lent::report(theirs.held(), ours.lent()));
     let before = room.clone();
     let expected = record.report_into(room);
     let input = || format!("record {record:?}, lent {before:?}");
@@ -72,7 +56,7 @@ fn report_alike(record: &Written, room: &mut Room) -> Result<(), u8> {
 
 /// Reports with the library into memory of its own, and compares with the peer and with the plain program.
 fn report_of(record: &Written) -> Result<Report, u8> {
-    let answer = quimdoral::report(held(record));
+    let answer = numbered(Report::of(held(record)));
     assert_eq!(answer, record.report(), "{record:?}");
     let mut plain = Report::default();
     assert_eq!(plain_report(record, &mut plain).map(|()| plain), answer, "the plain report on {record:?}");
@@ -169,9 +153,9 @@ fn check_laws(record: &Written, report: &Report) {
     assert_eq!(heard.octets.0 + missing.octets.0, sent.octets.0);
     assert_eq!(gaps.iter().map(|gap| gap.count.0).sum::<u32>(), missing.packets.0);
     assert_eq!(gaps.iter().map(|gap| gap.octets.0).sum::<u64>(), missing.octets.0);
-    assert!(gaps.windows(2).all(|two| two[0].first + two[0].count.0 < two[1].first));
+    assert!(gaps.windows(2).all(|two| two[0].first + two[0].count < two[1].first));
     for gap in gaps {
-        let (first, end) = (gap.first as usize, (gap.first + gap.count.0) as usize);
+        let (first, end) = (gap.first.0 as usize, (gap.first + gap.count).0 as usize);
         assert!(first < end && end <= sent.packets.0 as usize && !record.marks[first..end].contains(&1));
         assert!(gap.octets.0 <= LONGEST * u64::from(gap.count.0));
     }
@@ -182,7 +166,7 @@ fn heard_and_missing_make_up_what_was_sent() {
     let (mut noise, mut reported) = (Noise(58), 0);
     for _ in 0..40_000 {
         let record = any_record(&mut noise, 24);
-        if let Ok(report) = quimdoral::report(held(&record)) {
+        if let Ok(report) = Report::of(held(&record)) {
             check_laws(&record, &report);
             reported += 1;
         }
@@ -199,7 +183,7 @@ fn a_join_tells_no_less_than_either_record() {
         let capacity = sequence.lengths.len();
         let (mut left, right) = (sequence.part_of(&mut noise, capacity), sequence.part_of(&mut noise, capacity));
         let alone = [report_of(&left).unwrap(), report_of(&right).unwrap()];
-        assert_eq!(quimdoral::join(lists(&mut left), held(&right)), Ok(()));
+        assert_eq!(lent::join(lists(&mut left), held(&right)), Ok(()));
         let both = report_of(&left).unwrap();
         check_laws(&left, &both);
         for one in &alone {
@@ -217,14 +201,14 @@ fn records_that_own_their_memory_report_alike() {
     for _ in 0..2_000 {
         let sequence = Sequence::any(&mut noise, 16);
         let Key { bearer, period, stamp } = sequence.key;
-        let mut record = Record::fresh(bearer, period, stamp, sequence.lengths.len()).unwrap();
+        let mut record = Record::fresh(sequence.key, sequence.lengths.len()).unwrap();
         let mut written = Written::empty(bearer, period, stamp, sequence.lengths.len());
         for _ in 0..below(&mut noise, 12) {
             let frame = sequence.good(&mut noise, &reader);
             assert_eq!(record.hear(bearer, period, &frame), Ok(()));
             assert_eq!(written.hear(&reader, bearer, period, &frame), Ok(()));
         }
-        assert_eq!(Ok(record.report()), report_of(&written));
+        assert_eq!(numbered(record.report()), report_of(&written));
     }
 }
 

@@ -1,0 +1,139 @@
+//! The same calls on memory of the caller's own, which may lie anywhere and hold anything: a table of many records, say.
+//!
+//! Each call judges what it is lent, so damage of any kind is refused, and a refusal leaves all memory as it was. What was written
+//! stands in front of the lent memory, and nothing behind it differs.
+
+use crate::raw;
+use crate::record::Key;
+use crate::refusal::{JoinRefusal, Refusal, of_number};
+
+/// A record in borrowed memory.
+///
+/// The other lists have one place for each packet number; they have to be of one length, which is the record's capacity.
+pub struct Lists<'a> {
+    /// Six numbers: bearer, period, stamp, 1 where closed and 0 where not, the closing's packets, its octets. More are left alone.
+    pub head: &'a mut [u64],
+    /// 1 for each packet number that was heard, 0 for the others.
+    pub marks: &'a mut [u8],
+    /// The octets before each heard packet, 0 for the others.
+    pub elapsed: &'a mut [u32],
+    /// The payload length of each heard packet, 0 for the others.
+    pub sizes: &'a mut [u16],
+}
+
+/// A record in borrowed memory that is only read: the same four lists.
+#[derive(Clone, Copy)]
+pub struct Held<'a> {
+    /// Six numbers: bearer, period, stamp, 1 where closed and 0 where not, the closing's packets, its octets.
+    pub head: &'a [u64],
+    /// 1 for each packet number that was heard, 0 for the others.
+    pub marks: &'a [u8],
+    /// The octets before each heard packet, 0 for the others.
+    pub elapsed: &'a [u32],
+    /// The payload length of each heard packet, 0 for the others.
+    pub sizes: &'a [u16],
+}
+
+/// Lent memory for a report. The gaps come in front of three lists, one number of each gap in each.
+pub struct Lent<'a> {
+    /// The first packet number of each gap.
+    pub firsts: &'a mut [u32],
+    /// The packets of each gap.
+    pub counts: &'a mut [u32],
+    /// The octets of each gap.
+    pub octets: &'a mut [u64],
+    /// Seven figures: packets and octets that were sent, heard and missing, then the number of gaps.
+    pub figures: &'a mut [u64],
+}
+
+/// Makes the lists an empty record. Refusals, in this order: 14, 5.
+///
+/// ```
+/// use quimdoral::{Key, Refusal, lent::{Lists, fresh}};
+/// let (mut head, mut marks, mut elapsed, mut sizes) = ([9; 6], [9; 4], [9; 4], [9; 4]);
+/// let lists = Lists { head: &mut head, marks: &mut marks, elapsed: &mut elapsed, sizes: &mut sizes };
+/// assert_eq!(fresh(Key { bearer: 7, period: 3, stamp: 60_000 }, lists), Err(Refusal::StampTooHigh));
+/// assert_eq!(marks, [9; 4]);
+/// let lists = Lists { head: &mut head, marks: &mut marks, elapsed: &mut elapsed, sizes: &mut sizes };
+/// assert_eq!(fresh(Key { bearer: 7, period: 3, stamp: 0 }, lists), Ok(()));
+/// assert_eq!((head, marks), ([7, 3, 0, 0, 0, 0], [0; 4]));
+/// ```
+#[inline]
+pub fn fresh(key: Key, lists: Lists) -> Result<(), Refusal> {
+    of_number(raw::fresh(key.numbers(), lists))
+}
+
+/// Takes a frame that came in a bearer and a period. Refusals, in this order: 14, those of reading, 13, 9, 10, 11.
+///
+/// ```
+/// use quimdoral::{Refusal, lent::{Lists, hear}};
+/// let first = [0x10, 0, 0, 0, 0, 0, 0, 0, 0, 0x3A, 0x33, 0x01];
+/// let (mut head, mut marks, mut elapsed, mut sizes) = ([7, 3, 0, 0, 0, 0], [2, 0], [0; 2], [0; 2]);
+/// let lists = Lists { head: &mut head, marks: &mut marks, elapsed: &mut elapsed, sizes: &mut sizes };
+/// assert_eq!(hear(lists, 7, 3, &first), Err(Refusal::RecordDamaged)); // 2 is no mark
+/// marks[0] = 0;
+/// let lists = Lists { head: &mut head, marks: &mut marks, elapsed: &mut elapsed, sizes: &mut sizes };
+/// assert_eq!(hear(lists, 7, 3, &first), Ok(()));
+/// assert_eq!((marks, sizes), ([1, 0], [1, 0]));
+/// ```
+#[inline]
+pub fn hear(lists: Lists, bearer: u32, period: u32, frame: &[u8]) -> Result<(), Refusal> {
+    of_number(raw::hear(lists, bearer, period, frame))
+}
+
+/// Makes the lists an empty record and takes many frames into it, which is quicker than a call for each. Refusals of the whole, in this
+/// order: 14, 5, 12 (fewer places in `numbers` than in `ends`).
+///
+/// The frames stand in one row of octets. Frame `i` ends before `ends[i]`, and `numbers[i]` gets 0 or the number of its refusal. An end
+/// beyond the octets is taken as theirs, and one before the frame's begin gives an empty frame.
+///
+/// ```
+/// use quimdoral::{Key, lent::{Lists, hear_all}};
+/// let first = [0x10, 0, 0, 0, 0, 0, 0, 0, 0, 0x3A, 0x33, 0x01];
+/// let (mut head, mut marks, mut elapsed, mut sizes, mut numbers) = ([9; 6], [9; 2], [9; 2], [9; 2], [9; 4]);
+/// let lists = Lists { head: &mut head, marks: &mut marks, elapsed: &mut elapsed, sizes: &mut sizes };
+/// let key = Key { bearer: 7, period: 3, stamp: 0 };
+/// assert_eq!(hear_all(key, lists, &[first, first].concat(), &[12, 23, 24], &mut numbers), Ok(()));
+/// assert_eq!((marks, numbers), ([1, 0], [0, 7, 1, 9]));
+/// ```
+#[inline]
+pub fn hear_all(key: Key, lists: Lists, octets: &[u8], ends: &[u32], numbers: &mut [u8]) -> Result<(), Refusal> {
+    of_number(raw::hear_all(key.numbers(), lists, octets, ends, numbers))
+}
+
+/// Adds to the left record what the right one heard; the right one is only read. Refusals, in this order: 14, 13, 9, 11.
+///
+/// ```
+/// use quimdoral::{JoinRefusal, Packets, lent::{Held, Lists, join}};
+/// let (mut head, mut marks, mut elapsed, mut sizes) = ([7, 3, 0, 0, 0, 0], [1, 0], [0; 2], [5, 0]);
+/// let mut right = Held { head: &[7, 3, 0, 1, 2, 9], marks: &[0, 1], elapsed: &[0, 6], sizes: &[0, 3] };
+/// let left = Lists { head: &mut head, marks: &mut marks, elapsed: &mut elapsed, sizes: &mut sizes };
+/// assert_eq!(join(left, right), Err(JoinRefusal::Packet(Packets(1)))); // the left has five octets before it
+/// right.elapsed = &[0, 5];
+/// right.head = &[7, 3, 0, 1, 2, 8];
+/// let left = Lists { head: &mut head, marks: &mut marks, elapsed: &mut elapsed, sizes: &mut sizes };
+/// assert_eq!(join(left, right), Ok(()));
+/// assert_eq!((head, marks, elapsed, sizes), ([7, 3, 0, 1, 2, 8], [1, 1], [0, 5], [5, 3]));
+/// ```
+#[inline]
+pub fn join(left: Lists, right: Held) -> Result<(), JoinRefusal> {
+    JoinRefusal::answer(raw::join(left, right))
+}
+
+/// Reports on a record. Refusals, in this order: 14, 13, 12. Half as many places as the record has, and one, hold its gaps.
+///
+/// ```
+/// use quimdoral::{Refusal, lent::{Held, Lent, report}};
+/// let record = Held { head: &[7, 3, 0, 0, 0, 0], marks: &[0, 1], elapsed: &[0, 5], sizes: &[0, 3] };
+/// let (mut firsts, mut counts, mut octets, mut figures) = ([9; 2], [9; 2], [9; 2], [9; 8]);
+/// let lent = Lent { firsts: &mut firsts, counts: &mut counts, octets: &mut octets[..0], figures: &mut figures };
+/// assert_eq!(report(record, lent), Err(Refusal::NoRoom));
+/// let lent = Lent { firsts: &mut firsts, counts: &mut counts, octets: &mut octets, figures: &mut figures };
+/// assert_eq!(report(record, lent), Ok(()));
+/// assert_eq!((firsts, counts, octets), ([0, 9], [1, 9], [5, 9]));
+/// assert_eq!(figures, [2, 8, 1, 3, 1, 5, 1, 9]);
+/// ```
+#[inline]
+pub fn report(record: Held, lent: Lent) -> Result<(), Refusal> {
+    of_number(raw::report(record, lent))
+}

@@ -1,0 +1,199 @@
+//! Why a call was refused. After a refusal, all memory and state is as it was before the call.
+
+use crate::Packets;
+use std::error::Error;
+use std::fmt;
+
+/// Why a call was refused: of the reasons that apply, the first in the order that the call documents.
+///
+/// ```
+/// use quimdoral::{Refusal, frames};
+/// let refusal = frames::read(&[0x20]).unwrap_err();
+/// assert_eq!((refusal, refusal.number()), (Refusal::TypeTwo, 2));
+/// assert_eq!(refusal.to_string(), "refusal 2: the frame is of Type 2, which M1 does not use");
+/// ```
+#[derive(Clone, Copy, Debug, PartialEq, Eq, PartialOrd, Ord, Hash)]
+#[repr(u8)]
+pub enum Refusal {
+    /// The frame is empty, or shorter than its type's least size.
+    TooShort = 1,
+    /// The frame is of Type 2, which M1 does not use.
+    TypeTwo = 2,
+    /// The frame is of Types 4 to 15.
+    TypeUnknown = 3,
+    /// The header check is wrong.
+    HeaderCheckWrong = 4,
+    /// The stamp is above 59,999.
+    StampTooHigh = 5,
+    /// The frame has a size that its type does not have.
+    SizeWrong = 6,
+    /// The payload check is wrong.
+    PayloadCheckWrong = 7,
+    /// No sending has these counts, or one is too wide for its field.
+    CountsImpossible = 8,
+    /// The bearer, the period or the stamp is another sequence's.
+    OtherSequence = 9,
+    /// The packet number is at or above the record's capacity, or the closing's count is above it.
+    BeyondCapacity = 10,
+    /// No sending explains what the record holds together with what it was brought.
+    Contradiction = 11,
+    /// The lent output is shorter than what is to be written.
+    NoRoom = 12,
+    /// The record is damaged.
+    RecordDamaged = 13,
+    /// Two capacities, or one record's lists, differ, or one is above 65,535, or a head has fewer than six numbers.
+    CapacitiesDiffer = 14,
+    /// The sender is not in the phase that the call needs.
+    OutOfTurn = 15,
+    /// The stamp is not later than the last one of this period.
+    StampNotLater = 16,
+    /// The sequence has 65,535 data PDUs already.
+    SequenceFull = 17,
+    /// The period has 16,777,215 packets already.
+    PeriodFull = 18,
+    /// The octet total of the period would pass 2^40 - 1.
+    OctetsFull = 19,
+    /// The payload to be written is above 4,095 octets.
+    PayloadTooLong = 20,
+    /// The sender's state is damaged.
+    SenderDamaged = 21,
+    /// The lengths given for Type 3 are not one of at most 4,095 for each packet, with the elapsed octets as their sum.
+    LengthsWrong = 22,
+    /// The moment is 60,000 ticks or more past the period's start.
+    PeriodOver = 23,
+}
+
+use Refusal::*;
+
+impl Refusal {
+    /// All refusals, by rising number.
+    #[rustfmt::skip]
+    pub const ALL: [Refusal; 23] = [
+        TooShort, TypeTwo, TypeUnknown, HeaderCheckWrong, StampTooHigh, SizeWrong, PayloadCheckWrong, CountsImpossible, OtherSequence,
+        BeyondCapacity, Contradiction, NoRoom, RecordDamaged, CapacitiesDiffer, OutOfTurn, StampNotLater, SequenceFull, PeriodFull,
+        OctetsFull, PayloadTooLong, SenderDamaged, LengthsWrong, PeriodOver,
+    ];
+
+    /// The number by which reports and other programs name the refusal.
+    #[inline]
+    pub fn number(self) -> u8 {
+        self as u8
+    }
+
+    /// The refusal of a number from 1 to 23.
+    ///
+    /// ```
+    /// use quimdoral::Refusal;
+    /// assert!(Refusal::ALL.iter().all(|refusal| Refusal::from_number(refusal.number()) == Some(*refusal)));
+    /// assert_eq!((Refusal::from_number(0), Refusal::from_number(24)), (None, None));
+    /// ```
+    #[inline]
+    pub fn from_number(number: u8) -> Option<Refusal> {
+        Refusal::ALL.get(usize::from(number).wrapping_sub(1)).copied()
+    }
+
+    /// What the refusal means, in plain words and without its number.
+    pub fn meaning(self) -> &'static str {
+        match self {
+            TooShort => "the frame is empty, or shorter than its type allows",
+            TypeTwo => "the frame is of Type 2, which M1 does not use",
+            TypeUnknown => "the frame is of a reserved type, 4 to 15",
+            HeaderCheckWrong => "the header check is wrong",
+            StampTooHigh => "the stamp is above 59,999",
+            SizeWrong => "the frame has a size that its type does not have",
+            PayloadCheckWrong => "the payload check is wrong",
+            CountsImpossible => "no sending has these counts, or one is too wide for its field",
+            OtherSequence => "the bearer, the period or the stamp is another sequence's",
+            BeyondCapacity => "the packet number or the closing's count is beyond the record's capacity",
+            Contradiction => "it contradicts what the record holds",
+            NoRoom => "the lent output is shorter than what is to be written",
+            RecordDamaged => "the record is damaged",
+            CapacitiesDiffer => "two capacities or one record's lists differ, or one is above 65,535",
+            OutOfTurn => "the sender's call is out of turn",
+            StampNotLater => "the stamp is not later than the last one of this period",
+            SequenceFull => "the sequence has 65,535 packets already",
+            PeriodFull => "the period has 16,777,215 packets already",
+            OctetsFull => "the octets of the period would pass 2^40 - 1",
+            PayloadTooLong => "the payload is above 4,095 octets",
+            SenderDamaged => "the sender's state is damaged",
+            LengthsWrong => "the lengths are not one of at most 4,095 for each packet, with the elapsed octets as their sum",
+            PeriodOver => "the moment is 60,000 ticks or more past the period's start",
+        }
+    }
+}
+
+impl fmt::Display for Refusal {
+    fn fmt(&self, f: &mut fmt::Formatter<'_>) -> fmt::Result {
+        write!(f, "refusal {}: {}", self.number(), self.meaning())
+    }
+}
+
+impl Error for Refusal {}
+
+/// Why two records were not joined. A contradiction names what in the right record is at odds with the left.
+#[derive(Clone, Copy, Debug, PartialEq, Eq, Hash)]
+pub enum JoinRefusal {
+    /// The lists do not match, a record is damaged, or the records are of two sequences: refusals 14, 13 and 9, in this order.
+    Refused(Refusal),
+    /// Refusal 11: the lowest packet number of the right record that alone contradicts the left.
+    Packet(Packets),
+    /// Refusal 11: no packet of the right record contradicts the left alone, and its closing does.
+    Closing,
+}
+
+impl JoinRefusal {
+    /// What the library answered, taken apart: with 11, the number named times 256 is added to it.
+    #[inline]
+    pub(crate) fn answer(said: u32) -> Result<(), JoinRefusal> {
+        const NAMES_CLOSING: u32 = 65_536;
+        match (of_number((said & 255) as u8), said >> 8) {
+            (Ok(()), _) => Ok(()),
+            (Err(Contradiction), NAMES_CLOSING) => Err(JoinRefusal::Closing),
+            (Err(Contradiction), packet) => Err(JoinRefusal::Packet(Packets(packet))),
+            (Err(refusal), _) => Err(JoinRefusal::Refused(refusal)),
+        }
+    }
+
+    /// The refusal without what it names.
+    pub fn refusal(self) -> Refusal {
+        match self {
+            JoinRefusal::Refused(refusal) => refusal,
+            JoinRefusal::Packet(_) | JoinRefusal::Closing => Contradiction,
+        }
+    }
+
+    /// The number of the refusal.
+    pub fn number(self) -> u8 {
+        self.refusal().number()
+    }
+}
+
+impl fmt::Display for JoinRefusal {
+    fn fmt(&self, f: &mut fmt::Formatter<'_>) -> fmt::Result {
+        match self {
+            JoinRefusal::Refused(refusal) => refusal.fmt(f),
+            JoinRefusal::Packet(number) => write!(f, "refusal 11: packet {number} of the right record contradicts the left"),
+            JoinRefusal::Closing => write!(f, "refusal 11: the closing of the right record contradicts the left"),
+        }
+    }
+}
+
+impl Error for JoinRefusal {}
+
+impl From<JoinRefusal> for Refusal {
+    fn from(join: JoinRefusal) -> Refusal {
+        join.refusal()
+    }
+}
+
+/// An answer of the library that is 0 or a refusal's number.
+#[inline]
+pub(crate) fn of_number(number: u8) -> Result<(), Refusal> {
+    if number == 0 { Ok(()) } else { Err(refused(number)) }
+}
+
+/// The refusal that the library answered with. It has no other numbers.
+#[inline]
+pub(crate) fn refused(number: u8) -> Refusal {
+    Refusal::from_number(number).expect("the number of a refusal")
+}

@@ -1,0 +1,28 @@
+//! The compiled library and the account program beside independent code. It is one program, so that the peers are compiled once.
+#[path = "../../peers/account.rs"]
+mod account;
+#[path = "../../peers/fences.rs"]
+mod fences;
+#[path = "../../peers/frames.rs"]
+mod frames;
+#[path = "../../peers/generate.rs"]
+mod generate;
+#[path = "../../peers/items.rs"]
+mod items;
+#[path = "../../peers/joining.rs"]
+mod joining;
+#[path = "../../peers/checks.rs"]
+mod peers;
+#[path = "../../peers/records.rs"]
+mod records;
+#[path = "../../peers/reports.rs"]
+mod reports;
+#[path = "../../peers/sequences.rs"]
+mod sequences;
+
+mod accounts_printed;
+mod checks_alike;
+mod frames_read;
+mod records_heard;
+mod records_joined;
+mod records_reported;
