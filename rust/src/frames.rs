@@ -1,6 +1,6 @@
 //! Frames of PDU Types 0, 1 and 3: what they say, read and written.
 
-use crate::refusal::refused;
+use crate::refusal::{of_written, refused};
 use crate::{Octets, Packets, Refusal, raw};
 
 /// A data PDU (Type 1). Fields are wider than a frame has them, so that what does not fit is refused and not cut.
@@ -29,6 +29,102 @@ pub struct Closing {
     pub total_packets: Packets,
     /// Their octets.
     pub total_octets: Octets,
+}
+
+/// The octets of a Type 0 frame.
+const CLOSING_SIZE: usize = 18;
+/// The octets of a Type 1 frame without its payload.
+const DATA_LEAST: usize = 11;
+/// The octets of a Type 3 frame without its lengths.
+const LENGTHS_LEAST: usize = 19;
+
+/// The octets that a Type 1 frame has; a payload that is too long is refused, so it needs no room.
+pub(crate) fn data_size(payload: &[u8]) -> usize {
+    DATA_LEAST + payload.len().min(4_095)
+}
+
+/// The octets that a Type 3 frame has; lengths that are too many are refused, so they need no room.
+pub(crate) fn lengths_size(lengths: &[u16]) -> usize {
+    LENGTHS_LEAST + (3 * lengths.len().min(65_535)).div_ceil(2)
+}
+
+/// A list of the octets that `write` puts in front of so much room.
+pub(crate) fn in_vec(room: usize, write: impl FnOnce(&mut [u8]) -> Result<usize, Refusal>) -> Result<Vec<u8>, Refusal> {
+    let mut out = vec![0; room];
+    let written = write(&mut out)?;
+    out.truncate(written);
+    Ok(out)
+}
+
+impl Data<'_> {
+    /// Writes the frame in front of `out` and says how many octets it has. Refusals, in this order: 5, 20, 8, 12.
+    ///
+    /// ```
+    /// use quimdoral::{Data, Octets, Packets, Refusal};
+    /// let data = Data { stamp: 0, number: Packets(0), elapsed: Octets(0), payload: &[1] };
+    /// let mut out = [0xEE; 14];
+    /// assert_eq!(data.write(&mut out), Ok(12));
+    /// assert_eq!(out, [0x10, 0, 0, 0, 0, 0, 0, 0, 0, 0x3A, 0x33, 0x01, 0xEE, 0xEE]);
+    /// assert_eq!(data.write(&mut out[..11]), Err(Refusal::NoRoom));
+    /// ```
+    #[inline]
+    pub fn write(&self, out: &mut [u8]) -> Result<usize, Refusal> {
+        of_written(raw::write_data(self, out))
+    }
+
+    /// The frame in a list of its own. Refusals, in this order: 5, 20, 8.
+    ///
+    /// ```
+    /// use quimdoral::{Data, Octets, Packets, Refusal};
+    /// let data = Data { stamp: 0, number: Packets(1), elapsed: Octets(4_096), payload: &[] };
+    /// assert_eq!(data.to_vec(), Err(Refusal::CountsImpossible)); // one packet before it has at most 4,095 octets
+    /// ```
+    pub fn to_vec(&self) -> Result<Vec<u8>, Refusal> {
+        in_vec(data_size(self.payload), |out| self.write(out))
+    }
+}
+
+impl Closing {
+    /// Writes a Type 0 frame in front of `out` and says how many octets it has, which is 18. Refusals, in this order: 5, 8, 12.
+    ///
+    /// ```
+    /// use quimdoral::{Closing, Octets, Packets};
+    /// let (packets, octets) = (Packets(1), Octets(1));
+    /// let closing = Closing { stamp: 0, number: packets, elapsed: octets, total_packets: packets, total_octets: octets };
+    /// let mut out = [0; 18];
+    /// assert_eq!(closing.write(&mut out), Ok(18));
+    /// assert_eq!(out, [0, 0, 0, 0, 1, 0, 0, 0, 1, 0, 0, 1, 0, 0, 0, 0, 1, 0x9C]);
+    /// ```
+    #[inline]
+    pub fn write(&self, out: &mut [u8]) -> Result<usize, Refusal> {
+        of_written(raw::write_closing(self, out))
+    }
+
+    /// The Type 0 frame in a list of its own. Refusals, in this order: 5, 8.
+    pub fn to_vec(&self) -> Result<Vec<u8>, Refusal> {
+        in_vec(CLOSING_SIZE, |out| self.write(out))
+    }
+
+    /// Writes a Type 3 frame with the payload length of each packet in front of `out`, and says how many octets it has. Refusals, in this
+    /// order: 5, 8, 22, 12.
+    ///
+    /// ```
+    /// use quimdoral::{Closing, Octets, Packets, Refusal};
+    /// let (packets, octets) = (Packets(2), Octets(5));
+    /// let closing = Closing { stamp: 0, number: packets, elapsed: octets, total_packets: packets, total_octets: octets };
+    /// let mut out = [0; 22];
+    /// assert_eq!(closing.write_with_lengths(&[2, 3], &mut out), Ok(22));
+    /// assert_eq!(closing.write_with_lengths(&[2, 4], &mut out), Err(Refusal::LengthsWrong));
+    /// ```
+    #[inline]
+    pub fn write_with_lengths(&self, lengths: &[u16], out: &mut [u8]) -> Result<usize, Refusal> {
+        of_written(raw::write_closing_with_lengths(self, lengths, out))
+    }
+
+    /// The Type 3 frame in a list of its own. Refusals, in this order: 5, 8, 22.
+    pub fn to_vec_with_lengths(&self, lengths: &[u16]) -> Result<Vec<u8>, Refusal> {
+        in_vec(lengths_size(lengths), |out| self.write_with_lengths(lengths, out))
+    }
 }
 
 /// What a frame says.
@@ -77,7 +173,7 @@ pub fn read(frame: &[u8]) -> Result<Frame<'_>, Refusal> {
         number: Packets(said.at(2) as u32),
         elapsed: Octets(said.at(3)),
         // A data PDU's payload is all that stands behind its eleven octets of header.
-        payload: &frame[11..],
+        payload: &frame[DATA_LEAST..],
     };
     let told = raw::read_frame(frame, |said| match said.at(0) {
         1 => Frame::Closing(closing(said)),
@@ -85,4 +181,35 @@ pub fn read(frame: &[u8]) -> Result<Frame<'_>, Refusal> {
         _ => Frame::ClosingWithLengths(closing(said)),
     });
     told.map_err(refused)
+}
+
+/// Reads the payload lengths of a Type 3 frame to the front of `lengths`, and says how many there are; a frame of Type 0 or 1 has none.
+/// Refusals, in this order: those of [`read`], 12.
+///
+/// ```
+/// use quimdoral::{Refusal, frames};
+/// let frame = [0x30, 0, 0, 0, 1, 0, 0, 0, 1, 0, 0, 1, 0, 0, 0, 0, 1, 0x00, 0x31, 0x00, 0x10];
+/// let mut lengths = [9; 3];
+/// assert_eq!(frames::read_lengths(&frame, &mut lengths), Ok(1));
+/// assert_eq!(lengths, [1, 9, 9]);
+/// assert_eq!(frames::read_lengths(&frame, &mut []), Err(Refusal::NoRoom));
+/// ```
+#[inline]
+pub fn read_lengths(frame: &[u8], lengths: &mut [u16]) -> Result<usize, Refusal> {
+    of_written(raw::read_lengths(frame, lengths))
+}
+
+/// The payload lengths of a Type 3 frame in a list of their own; a frame of Type 0 or 1 has none. Refusals are those of [`read`].
+///
+/// ```
+/// let frame = [0x30, 0, 0, 0, 1, 0, 0, 0, 1, 0, 0, 1, 0, 0, 0, 0, 1, 0x00, 0x31, 0x00, 0x10];
+/// assert_eq!(quimdoral::frames::lengths(&frame), Ok(vec![1]));
+/// ```
+pub fn lengths(frame: &[u8]) -> Result<Vec<u16>, Refusal> {
+    // Three octets hold two lengths, and a frame has at most 65,535.
+    let room = (frame.len().saturating_sub(LENGTHS_LEAST) * 2 / 3).min(65_535);
+    let mut lengths = vec![0; room];
+    let count = read_lengths(frame, &mut lengths)?;
+    lengths.truncate(count);
+    Ok(lengths)
 }

@@ -5,7 +5,7 @@
 
 use crate::raw;
 use crate::record::Key;
-use crate::refusal::{JoinRefusal, Refusal, of_number};
+use crate::refusal::{JoinRefusal, Refusal, of_number, of_written};
 
 /// A record in borrowed memory.
 ///
@@ -136,4 +136,60 @@ pub fn join(left: Lists, right: Held) -> Result<(), JoinRefusal> {
 #[inline]
 pub fn report(record: Held, lent: Lent) -> Result<(), Refusal> {
     of_number(raw::report(record, lent))
+}
+
+/// Makes a state of six numbers that of a fresh sender, whatever it held. Refusals: 12.
+///
+/// The numbers are 0 where fresh, 1 where open and 2 where closed; the stamp; the packets and octets of the sequence; the packets and octets
+/// of the period. More numbers are left alone. What numbers mean damage, [`State`](crate::sender::State) says; a list that is too short, and
+/// numbers that no state has, are damage too.
+///
+/// ```
+/// use quimdoral::{Refusal, lent};
+/// let (mut state, mut out) = ([9; 6], [0; 18]);
+/// assert_eq!(lent::sender_open(&mut state, 5), Err(Refusal::SenderDamaged));
+/// lent::sender_fresh(&mut state)?;
+/// lent::sender_open(&mut state, 5)?;
+/// assert_eq!(lent::sender_data(&mut state, b"news", &mut out)?, 15);
+/// assert_eq!(state, [1, 5, 1, 4, 1, 4]);
+/// assert_eq!(lent::sender_close(&mut state, &mut out)?, 18);
+/// assert_eq!(state, [2, 5, 0, 0, 1, 4]);
+/// lent::sender_new_period(&mut state)?;
+/// assert_eq!(state, [0; 6]);
+/// # Ok::<(), Refusal>(())
+/// ```
+#[inline]
+pub fn sender_fresh(state: &mut [u64]) -> Result<(), Refusal> {
+    of_number(raw::sender_fresh(state))
+}
+
+/// Opens a sequence, as [`Sender::open`](crate::Sender::open). Refusals, in this order: 21, 15, 5, 16.
+#[inline]
+pub fn sender_open(state: &mut [u64], stamp: u32) -> Result<(), Refusal> {
+    of_number(raw::sender_open(state, stamp))
+}
+
+/// Sends a packet, as [`Sender::data`](crate::Sender::data). Refusals, in this order: 21, 15, 20, 17, 18, 19, 12.
+#[inline]
+pub fn sender_data(state: &mut [u64], payload: &[u8], out: &mut [u8]) -> Result<usize, Refusal> {
+    of_written(raw::sender_data(state, payload, out))
+}
+
+/// Closes the sequence, as [`Sender::close`](crate::Sender::close). Refusals, in this order: 21, 15, 12.
+#[inline]
+pub fn sender_close(state: &mut [u64], out: &mut [u8]) -> Result<usize, Refusal> {
+    of_written(raw::sender_close(state, out))
+}
+
+/// Closes the sequence with a length for each packet, as [`Sender::close_with_lengths`](crate::Sender::close_with_lengths). Refusals, in
+/// this order: 21, 15, 22, 12.
+#[inline]
+pub fn sender_close_with_lengths(state: &mut [u64], lengths: &[u16], out: &mut [u8]) -> Result<usize, Refusal> {
+    of_written(raw::sender_close_with_lengths(state, lengths, out))
+}
+
+/// Begins a new period, as [`Sender::new_period`](crate::Sender::new_period). Refusals, in this order: 21, 15.
+#[inline]
+pub fn sender_new_period(state: &mut [u64]) -> Result<(), Refusal> {
+    of_number(raw::sender_new_period(state))
 }

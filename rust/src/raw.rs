@@ -5,6 +5,7 @@
 //! A slice says the first, and `&mut` says the second, so the functions below are safe for whoever calls them.
 
 use crate::lent::{Held, Lent, Lists};
+use crate::{Closing, Data, Octets, Packets};
 use std::mem::MaybeUninit;
 
 #[rustfmt::skip]
@@ -12,6 +13,39 @@ unsafe extern "C" {
     fn quimdoral_header_check(octets: *const u8, length: usize) -> u8;
     fn quimdoral_payload_check(octets: *const u8, length: usize) -> u16;
     fn quimdoral_read_frame(frame: *const u8, length: usize, said: *mut u64, room: usize) -> u8;
+    fn quimdoral_read_lengths(frame: *const u8, length: usize, lengths: *mut u16, lengths_length: usize) -> u64;
+    fn quimdoral_write_data(
+        stamp: u32, number: u32, elapsed: u64,
+        payload: *const u8, payload_length: usize,
+        out: *mut u8, out_length: usize,
+    ) -> u64;
+    fn quimdoral_write_closing(
+        stamp: u32, number: u32, elapsed: u64, packets: u32, octets: u64,
+        out: *mut u8, out_length: usize,
+    ) -> u64;
+    fn quimdoral_write_closing_with_lengths(
+        stamp: u32, number: u32, elapsed: u64, packets: u32, octets: u64,
+        lengths: *const u16, lengths_length: usize,
+        out: *mut u8, out_length: usize,
+    ) -> u64;
+    fn quimdoral_sender_fresh(state: *mut u64, state_length: usize) -> u8;
+    fn quimdoral_sender_open(state: *mut u64, state_length: usize, stamp: u32) -> u8;
+    fn quimdoral_sender_data(
+        state: *mut u64, state_length: usize,
+        payload: *const u8, payload_length: usize,
+        out: *mut u8, out_length: usize,
+    ) -> u64;
+    fn quimdoral_sender_close(state: *mut u64, state_length: usize, out: *mut u8, out_length: usize) -> u64;
+    fn quimdoral_sender_close_with_lengths(
+        state: *mut u64, state_length: usize,
+        lengths: *const u16, lengths_length: usize,
+        out: *mut u8, out_length: usize,
+    ) -> u64;
+    fn quimdoral_sender_new_period(state: *mut u64, state_length: usize) -> u8;
+    // SAFETY: numbers alone, and every number is taken.
+    pub safe fn quimdoral_stamp_of(tick: u32, start: u32) -> u64;
+    pub safe fn quimdoral_due(start: u32, stamp: u32) -> u64;
+    pub safe fn quimdoral_lateness(arrival: u32, due_at: u32) -> i32;
     fn quimdoral_fresh(
         bearer: u32, period: u32, stamp: u32,
         head: *mut u64, head_length: usize,
@@ -95,6 +129,90 @@ pub fn read_frame<T>(frame: &[u8], tell: impl FnOnce(&Said) -> T) -> Result<T, u
     let number = unsafe { quimdoral_read_frame(frame.as_ptr(), frame.len(), said.as_mut_ptr().cast(), SAID) };
     // Where the answer is 0, all numbers were written.
     if number == 0 { Ok(tell(&Said(said))) } else { Err(number) }
+}
+
+#[inline]
+pub fn read_lengths(frame: &[u8], lengths: &mut [u16]) -> u64 {
+    // SAFETY: slices, the one that is written to borrowed exclusively.
+    unsafe { quimdoral_read_lengths(frame.as_ptr(), frame.len(), lengths.as_mut_ptr(), lengths.len()) }
+}
+
+#[inline]
+pub fn write_data(data: &Data, out: &mut [u8]) -> u64 {
+    let Data { stamp, number: Packets(number), elapsed: Octets(elapsed), payload } = *data;
+    // SAFETY: slices, the one that is written to borrowed exclusively.
+    unsafe { quimdoral_write_data(stamp, number, elapsed, payload.as_ptr(), payload.len(), out.as_mut_ptr(), out.len()) }
+}
+
+#[inline]
+pub fn write_closing(closing: &Closing, out: &mut [u8]) -> u64 {
+    let Closing { stamp, number, elapsed, total_packets, total_octets } = *closing;
+    // SAFETY: a slice, borrowed exclusively.
+    unsafe { quimdoral_write_closing(stamp, number.0, elapsed.0, total_packets.0, total_octets.0, out.as_mut_ptr(), out.len()) }
+}
+
+#[inline]
+#[rustfmt::skip]
+pub fn write_closing_with_lengths(closing: &Closing, lengths: &[u16], out: &mut [u8]) -> u64 {
+    let Closing { stamp, number, elapsed, total_packets, total_octets } = *closing;
+    // SAFETY: slices, the one that is written to borrowed exclusively.
+    unsafe {
+        quimdoral_write_closing_with_lengths(
+            stamp, number.0, elapsed.0, total_packets.0, total_octets.0,
+            lengths.as_ptr(), lengths.len(),
+            out.as_mut_ptr(), out.len(),
+        )
+    }
+}
+
+#[inline]
+pub fn sender_fresh(state: &mut [u64]) -> u8 {
+    // SAFETY: a slice, borrowed exclusively.
+    unsafe { quimdoral_sender_fresh(state.as_mut_ptr(), state.len()) }
+}
+
+#[inline]
+pub fn sender_open(state: &mut [u64], stamp: u32) -> u8 {
+    // SAFETY: a slice, borrowed exclusively.
+    unsafe { quimdoral_sender_open(state.as_mut_ptr(), state.len(), stamp) }
+}
+
+#[inline]
+#[rustfmt::skip]
+pub fn sender_data(state: &mut [u64], payload: &[u8], out: &mut [u8]) -> u64 {
+    // SAFETY: slices, those that are written to borrowed exclusively.
+    unsafe {
+        quimdoral_sender_data(
+            state.as_mut_ptr(), state.len(),
+            payload.as_ptr(), payload.len(),
+            out.as_mut_ptr(), out.len(),
+        )
+    }
+}
+
+#[inline]
+pub fn sender_close(state: &mut [u64], out: &mut [u8]) -> u64 {
+    // SAFETY: slices, both borrowed exclusively.
+    unsafe { quimdoral_sender_close(state.as_mut_ptr(), state.len(), out.as_mut_ptr(), out.len()) }
+}
+
+#[inline]
+#[rustfmt::skip]
+pub fn sender_close_with_lengths(state: &mut [u64], lengths: &[u16], out: &mut [u8]) -> u64 {
+    // SAFETY: slices, those that are written to borrowed exclusively.
+    unsafe {
+        quimdoral_sender_close_with_lengths(
+            state.as_mut_ptr(), state.len(),
+            lengths.as_ptr(), lengths.len(),
+            out.as_mut_ptr(), out.len(),
+        )
+    }
+}
+
+#[inline]
+pub fn sender_new_period(state: &mut [u64]) -> u8 {
+    // SAFETY: a slice, borrowed exclusively.
+    unsafe { quimdoral_sender_new_period(state.as_mut_ptr(), state.len()) }
 }
 
 #[inline]

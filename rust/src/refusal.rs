@@ -192,6 +192,18 @@ pub(crate) fn of_number(number: u8) -> Result<(), Refusal> {
     if number == 0 { Ok(()) } else { Err(refused(number)) }
 }
 
+/// An answer of the library that has a value: the lowest eight bits are 0 or a refusal's number, and the value stands above them.
+#[inline]
+pub(crate) fn of_answer(answer: u64) -> Result<u64, Refusal> {
+    of_number((answer & 255) as u8).map(|()| answer >> 8)
+}
+
+/// An answer that says how much of a lent slice was written, which a `usize` can say too.
+#[inline]
+pub(crate) fn of_written(answer: u64) -> Result<usize, Refusal> {
+    of_answer(answer).map(|written| written as usize)
+}
+
 /// The refusal that the library answered with. It has no other numbers.
 #[inline]
 pub(crate) fn refused(number: u8) -> Refusal {
