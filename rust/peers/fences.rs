@@ -17,6 +17,20 @@ fn within<T>(list: &mut [T]) -> &mut [T] {
     &mut list[4..end]
 }
 
+/// A copy of any list between fences.
+#[derive(Debug, PartialEq, Eq)]
+pub struct Fenced<T>(Vec<T>);
+
+impl<T: Copy + From<u8>> Fenced<T> {
+    pub fn around(list: &[T]) -> Fenced<T> {
+        Fenced(fenced(list))
+    }
+
+    pub fn lent(&mut self) -> &mut [T] {
+        within(&mut self.0)
+    }
+}
+
 /// A copy of a record between fences.
 #[derive(Debug, PartialEq, Eq)]
 pub struct FencedRecord(Written);

@@ -62,10 +62,18 @@ pub fn sealed(noise: &mut Noise, reader: &Reader) -> Vec<u8> {
     frame
 }
 
-/// One of: a sealed frame, one with a few bits turned, one cut or longer, one sealed again after damage, or noise.
+/// What was done to a frame, by the place of its name.
+pub const WAYS: [&str; 8] = ["bits turned", "cut", "longer", "sealed again after damage", "noise", "other type", "as it was", "as it was"];
+
 pub fn any(noise: &mut Noise, reader: &Reader) -> Vec<u8> {
+    any_way(noise, reader).1
+}
+
+/// A sealed frame, mostly with something done to it, and which of the ways it was.
+pub fn any_way(noise: &mut Noise, reader: &Reader) -> (usize, Vec<u8>) {
     let mut frame = sealed(noise, reader);
-    match noise.next() % 8 {
+    let way = noise.next() as usize % WAYS.len();
+    match way {
         0 => {
             for _ in 0..=noise.next() % 3 {
                 let bit = noise.next() as usize % (8 * frame.len());
@@ -89,7 +97,7 @@ pub fn any(noise: &mut Noise, reader: &Reader) -> Vec<u8> {
         5 => frame[0] ^= (noise.next() as u8) << 4,
         _ => {}
     }
-    frame
+    (way, frame)
 }
 
 /// A data PDU with right checks. What its payload says is nothing to a record, so it is one octet repeated.

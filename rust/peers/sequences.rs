@@ -20,7 +20,7 @@ pub fn one_in(noise: &mut Noise, times: u64) -> bool {
 
 /// The number, or one next to it.
 pub fn next_to(noise: &mut Noise, number: u64) -> u64 {
-    (number + below(noise, 3)).saturating_sub(1)
+    number.saturating_add(below(noise, 3)).saturating_sub(1)
 }
 
 /// Writes to a record that a packet was heard.
@@ -216,7 +216,7 @@ pub fn numbered<T>(answer: Result<T, Refusal>) -> Result<T, u8> {
 
 /// How often each answer came, by the refusal's number.
 #[derive(Default, Debug)]
-pub struct Tally(pub [usize; 15]);
+pub struct Tally(pub [usize; 24]);
 
 impl Tally {
     pub fn add(&mut self, answer: Result<(), u8>) {

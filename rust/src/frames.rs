@@ -172,8 +172,7 @@ pub fn read(frame: &[u8]) -> Result<Frame<'_>, Refusal> {
         stamp: said.at(1) as u32,
         number: Packets(said.at(2) as u32),
         elapsed: Octets(said.at(3)),
-        // A data PDU's payload is all that stands behind its eleven octets of header.
-        payload: &frame[DATA_LEAST..],
+        payload: &frame[DATA_LEAST..][..said.at(6) as usize],
     };
     let told = raw::read_frame(frame, |said| match said.at(0) {
         1 => Frame::Closing(closing(said)),

@@ -17,12 +17,23 @@ mod peers;
 mod records;
 #[path = "../../peers/reports.rs"]
 mod reports;
+#[path = "../../peers/senders.rs"]
+mod senders;
 #[path = "../../peers/sequences.rs"]
 mod sequences;
+#[path = "../../peers/ticks.rs"]
+mod ticks;
+#[path = "../../peers/writing.rs"]
+mod writing;
 
 mod accounts_printed;
 mod checks_alike;
+mod clock_alike;
+mod counted;
 mod frames_read;
+mod frames_written;
 mod records_heard;
 mod records_joined;
 mod records_reported;
+mod senders_alike;
+mod sent_and_heard;

@@ -1,5 +1,6 @@
 //! Compiled records beside records written on their own from document 01: good frames, contradicting ones, and damaged lists.
 
+use crate::counted::{FRESH, HEARD};
 use crate::frames::Reader;
 use crate::generate;
 use crate::peers::Noise;
@@ -108,15 +109,15 @@ fn hear_many(seed: u64, most: u64, calls: usize) -> Tally {
 
 #[test]
 fn frames_are_heard_alike() {
-    let tally = hear_many(21, 30, 400_000);
+    let tally = hear_many(21, 30, HEARD[0]);
     // every answer that an undamaged record can give came up often enough to mean something
-    assert!((0..12).all(|answer| tally.0[answer] > 300), "{tally:?}");
+    assert!(tally.calls() >= HEARD[0] && (0..12).all(|answer| tally.0[answer] > 300), "{tally:?}");
 }
 
 #[test]
 fn frames_are_heard_alike_in_longer_records() {
-    let tally = hear_many(26, 1_000, 40_000);
-    assert!([0, 9, 10, 11].iter().all(|&answer| tally.0[answer] > 1_000), "{tally:?}");
+    let tally = hear_many(26, 1_000, HEARD[1]);
+    assert!(tally.calls() >= HEARD[1] && [0, 9, 10, 11].iter().all(|&answer| tally.0[answer] > 1_000), "{tally:?}");
 }
 
 fn same_as_plain(record: &Written, plain: &PlainRecord) {
@@ -164,7 +165,7 @@ fn damaged_records_are_refused_alike() {
     let reader = Reader::new();
     let mut noise = Noise(23);
     let mut tallies: [Tally; DAMAGES as usize] = Default::default();
-    for round in 0..120_000 {
+    for round in 0..HEARD[2] as u64 {
         let most = if one_in(&mut noise, 40) { 700 } else { 12 };
         let sequence = Sequence::any(&mut noise, most);
         let capacity = any_capacity(&mut noise, sequence.lengths.len());
@@ -176,6 +177,7 @@ fn damaged_records_are_refused_alike() {
         let by = any_way(&mut noise, sequence.key);
         tallies[way as usize].add(hear_alike(&mut record, &reader, by, &frame));
     }
+    assert_eq!(tallies.iter().map(Tally::calls).sum::<usize>(), HEARD[2]);
     // each way to damage a record was found out, by its own number
     for (way, tally) in tallies.iter().enumerate() {
         let number = match way {
@@ -224,17 +226,17 @@ fn hear_all_alike(noise: &mut Noise, reader: &Reader) -> Result<(), u8> {
 #[test]
 fn frames_in_one_call_are_heard_alike() {
     let (reader, mut noise, mut tally) = (Reader::new(), Noise(27), Tally::default());
-    for _ in 0..20_000 {
+    for _ in 0..HEARD[3] {
         tally.add(hear_all_alike(&mut noise, &reader));
     }
-    assert!([0, 12].iter().all(|&answer| tally.0[answer] > 1_000), "{tally:?}");
+    assert!(tally.calls() == HEARD[3] && [0, 12].iter().all(|&answer| tally.0[answer] > 1_000), "{tally:?}");
 }
 
 #[test]
 fn fresh_records_are_made_alike() {
     let mut noise = Noise(24);
     let mut tally = Tally::default();
-    for round in 0..20_000 {
+    for round in 0..FRESH {
         let capacity = if round < 60 { [65_534, 65_535, 65_536][round % 3] } else { below(&mut noise, 20) as usize };
         let mut record = Written {
             head: (0..6).map(|_| noise.next()).collect(),
@@ -249,7 +251,7 @@ fn fresh_records_are_made_alike() {
         let stamp = [0, 59_999, 60_000, 65_536, u32::MAX][below(&mut noise, 5) as usize];
         tally.add(fresh_alike(&mut record, Key { bearer: noise.next() as u32, period: noise.next() as u32, stamp }));
     }
-    assert!([0, 5, 14].iter().all(|&answer| tally.0[answer] > 1_000), "{tally:?}");
+    assert!(tally.calls() == FRESH && [0, 5, 14].iter().all(|&answer| tally.0[answer] > 1_000), "{tally:?}");
 }
 
 #[test]

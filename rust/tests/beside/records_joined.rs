@@ -1,5 +1,6 @@
 //! Compiled joins beside joins written on their own from document 01: one sequence, contradicting ones, damaged lists, and the laws.
 
+use crate::counted::JOINED;
 use crate::fences::FencedRecord;
 use crate::frames::Reader;
 use crate::joining::{JoinRefusal, plain_join};
@@ -31,6 +32,10 @@ impl Tally {
         if let Err(JoinRefusal::Packet(packet)) = answer {
             self.found_later += usize::from(right.marks[..packet as usize].contains(&1));
         }
+    }
+
+    fn calls(&self) -> usize {
+        self.numbers.iter().sum()
     }
 
     fn came(&self, numbers: &[usize], times: usize) -> bool {
@@ -148,16 +153,16 @@ fn join_many(seed: u64, most: u64, joins: usize) -> Tally {
 
 #[test]
 fn records_are_joined_alike() {
-    let tally = join_many(31, 20, 250_000);
+    let tally = join_many(31, 20, JOINED[0]);
     // every answer came up often enough to mean something, and contradictions named packets, low and high, as well as closings
-    assert!(tally.came(&[0, 9, 11, 14], 8_000), "{tally:?}");
+    assert!(tally.calls() == JOINED[0] && tally.came(&[0, 9, 11, 14], 8_000), "{tally:?}");
     assert!(tally.packets > 8_000 && tally.found_later > 8_000 && tally.closings > 8_000, "{tally:?}");
 }
 
 #[test]
 fn records_are_joined_alike_when_longer() {
-    let tally = join_many(32, 300, 5_000);
-    assert!(tally.came(&[0, 9, 11, 14], 100) && tally.found_later > 100 && tally.closings > 100, "{tally:?}");
+    let tally = join_many(32, 300, JOINED[1]);
+    assert!(tally.calls() == JOINED[1] && tally.came(&[0, 9, 11, 14], 100) && tally.found_later > 100 && tally.closings > 100, "{tally:?}");
 }
 
 #[test]
@@ -173,7 +178,7 @@ fn the_smallest_records_are_joined_alike() {
 fn damaged_records_are_refused_alike_on_either_side() {
     let mut noise = Noise(36);
     let mut tallies: [[Tally; 2]; DAMAGES as usize] = Default::default();
-    for round in 0..108_000 {
+    for round in 0..JOINED[2] as u64 {
         let most = if one_in(&mut noise, 40) { 100 } else { 12 };
         let sequence = Sequence::any(&mut noise, most);
         let capacity = any_capacity(&mut noise, sequence.lengths.len());
@@ -183,6 +188,7 @@ fn damaged_records_are_refused_alike_on_either_side() {
         damage(&mut noise, if on_the_right { &mut right } else { &mut left }, way);
         tallies[way as usize][usize::from(on_the_right)].add(join_alike(&mut left, &right));
     }
+    assert_eq!(tallies.iter().flatten().map(Tally::calls).sum::<usize>(), JOINED[2]);
     // each way to damage a record was found out, on either side, by its own number
     for (way, sides) in tallies.iter().enumerate() {
         let number = match way {

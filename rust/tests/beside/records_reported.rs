@@ -1,5 +1,6 @@
 //! Compiled reports beside reports counted over a sending: one sequence with losses, damaged lists, lists too short, and the laws.
 
+use crate::counted::REPORTED;
 use crate::fences::{FencedRecord, FencedRoom};
 use crate::frames::Reader;
 use crate::peers::Noise;
@@ -92,14 +93,14 @@ fn report_many(seed: u64, most: u64, reports: usize) -> Tally {
 
 #[test]
 fn records_are_reported_on_alike() {
-    let tally = report_many(51, 24, 200_000);
-    assert!(tally.came(&[0, 12, 13], 8_000), "{tally:?}");
+    let tally = report_many(51, 24, REPORTED[0]);
+    assert!(tally.calls() == REPORTED[0] && tally.came(&[0, 12, 13], 8_000), "{tally:?}");
 }
 
 #[test]
 fn records_are_reported_on_alike_when_longer() {
-    let tally = report_many(52, 1_000, 4_000);
-    assert!(tally.came(&[0, 12, 13], 150), "{tally:?}");
+    let tally = report_many(52, 1_000, REPORTED[1]);
+    assert!(tally.calls() == REPORTED[1] && tally.came(&[0, 12, 13], 150), "{tally:?}");
 }
 
 #[test]
@@ -114,13 +115,14 @@ fn the_smallest_records_are_reported_on_alike() {
 fn damaged_records_are_refused_alike() {
     let mut noise = Noise(56);
     let mut tallies: [Tally; DAMAGES as usize] = Default::default();
-    for round in 0..90_000 {
+    for round in 0..REPORTED[2] as u64 {
         let most = if one_in(&mut noise, 40) { 300 } else { 12 };
         let mut record = any_record(&mut noise, most);
         let way = round % DAMAGES;
         damage(&mut noise, &mut record, way);
         tallies[way as usize].add(report_both_ways(&mut noise, &record));
     }
+    assert_eq!(tallies.iter().map(Tally::calls).sum::<usize>(), REPORTED[2]);
     // each way to damage a record was found out, by its own number
     for (way, tally) in tallies.iter().enumerate() {
         let number = match way {
