@@ -25,7 +25,6 @@ fn a_million_frames_are_read_alike() {
     assert!(ways.iter().all(|&times| times > READ / 10), "{WAYS:?}: {ways:?}");
     assert!(accepted.iter().all(|&times| times > 1_000), "accepted {accepted:?}");
     assert!(refused[1..].iter().all(|&times| times > 1_000), "refused {refused:?}");
-    println!("frames read: {WAYS:?} {ways:?}; accepted {accepted:?}, refused {refused:?}");
 }
 
 /// The payload of an accepted data PDU is the frame's own octets, from the twelfth on.

@@ -72,7 +72,7 @@ fn packets_up_to(noise: &mut Noise, limit: u64) -> u32 {
 fn any_payload(noise: &mut Noise) -> Vec<u8> {
     let length = match below(noise, 20) {
         0 => one_of(noise, &[4_094, 4_095, 4_096, 4_097]),
-        1 => one_of(noise, &[5_000, 65_535, 65_536, 70_000]),
+        1 if one_in(noise, 10) => one_of(noise, &[5_000, 65_535, 65_536, 70_000]),
         2 => below(noise, 4_096) as usize,
         3..=5 => 0,
         _ => below(noise, 90) as usize,
@@ -106,7 +106,7 @@ fn data_is_written_alike() {
     for _ in 0..WRITTEN[0] {
         tally.add(data_alike(&mut noise));
     }
-    assert!(tally.calls() == WRITTEN[0] && tally.came(&[0, 5, 8, 12, 20], 5_000), "{tally:?}");
+    assert!(tally.calls() == WRITTEN[0] && tally.came(&[0, 5, 8, 12, 20], 2_000), "{tally:?}");
 }
 
 fn given(closing: &Closing) -> quimdoral::Closing {
