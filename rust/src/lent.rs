@@ -9,7 +9,8 @@ use crate::refusal::{JoinRefusal, Refusal, of_number, of_written};
 
 /// A record in borrowed memory.
 ///
-/// The other lists have one place for each packet number; they have to be of one length, which is the record's capacity.
+/// The lists behind the head have one place for each packet number; they have to be of one length, which is the record's capacity.
+#[derive(Debug)]
 pub struct Lists<'a> {
     /// Six numbers: bearer, period, stamp, 1 where closed and 0 where not, the closing's packets, its octets. More are left alone.
     pub head: &'a mut [u64],
@@ -22,7 +23,7 @@ pub struct Lists<'a> {
 }
 
 /// A record in borrowed memory that is only read: the same four lists.
-#[derive(Clone, Copy)]
+#[derive(Clone, Copy, Debug)]
 pub struct Held<'a> {
     /// Six numbers: bearer, period, stamp, 1 where closed and 0 where not, the closing's packets, its octets.
     pub head: &'a [u64],
@@ -35,6 +36,7 @@ pub struct Held<'a> {
 }
 
 /// Lent memory for a report. The gaps come in front of three lists, one number of each gap in each.
+#[derive(Debug)]
 pub struct Lent<'a> {
     /// The first packet number of each gap.
     pub firsts: &'a mut [u32],
@@ -140,9 +142,9 @@ pub fn report(record: Held, lent: Lent) -> Result<(), Refusal> {
 
 /// Makes a state of six numbers that of a fresh sender, whatever it held. Refusals: 12.
 ///
-/// The numbers are 0 where fresh, 1 where open and 2 where closed; the stamp; the packets and octets of the sequence; the packets and octets
-/// of the period. More numbers are left alone. What numbers mean damage, [`State`](crate::sender::State) says; a list that is too short, and
-/// numbers that no state has, are damage too.
+/// The numbers are 0 where fresh, 1 where open and 2 where closed; the stamp; the packets and octets of the sequence; the packets and
+/// octets of the period. More numbers are left alone. Which numbers are damage, [`State`](crate::sender::State) says; a list that is too
+/// short, and numbers that no state has, are damage too.
 ///
 /// ```
 /// use quimdoral::{Refusal, lent};

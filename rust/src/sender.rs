@@ -17,8 +17,9 @@ pub enum Phase {
 
 /// All that a sender knows, for looking at it, storing it and making it again.
 ///
-/// It is damaged, and every call is refused with 21, if the stamp is above 59,999, `number` above 65,535 or `total_packets` above 16,777,215;
-/// if the counts are impossible in a closing PDU; if `number` or `elapsed` is not zero when closed; if anything is not zero when fresh.
+/// It is damaged, and every call is refused with 21, if the stamp is above 59,999, `number` above 65,535 or `total_packets` above
+/// 16,777,215; if the counts are impossible in a closing PDU; if `number` or `elapsed` is not zero when closed; if anything is not zero
+/// when fresh.
 #[derive(Clone, Copy, Debug, Default, PartialEq, Eq, Hash)]
 pub struct State {
     /// Where the sender stands.
@@ -140,8 +141,8 @@ impl Sender {
         in_vec(18, |out| self.close(out))
     }
 
-    /// Closes the sequence with a Type 3 frame, which has the payload length of each packet; the sender keeps no lengths, so they are given.
-    /// Refusals, in this order: 21, 15, 22, 12.
+    /// Closes the sequence with a Type 3 frame, which has the payload length of each packet; the sender keeps no lengths, so they are
+    /// given. Refusals, in this order: 21, 15, 22, 12.
     ///
     /// ```
     /// use quimdoral::{Refusal, Sender, frames};

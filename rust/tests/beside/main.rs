@@ -32,6 +32,7 @@ mod clock_alike;
 mod counted;
 mod frames_read;
 mod frames_written;
+mod readme;
 mod records_heard;
 mod records_joined;
 mod records_reported;
