@@ -290,6 +290,34 @@ fn what_was_read_is_written_again() {
     assert!(same > 5_000 && tidier > 5_000, "{same} the same, {tidier} tidier");
 }
 
+/// The order 5, 20, 8, 22, 12: whatever else applies, the first is given.
+#[test]
+fn the_first_refusal_counts() {
+    let mut noise = Noise(86);
+    for wrong in 0..32 {
+        let is_wrong = |place: u32| wrong >> place & 1 == 1;
+        let first = |numbers: &[u8], places: &[u32]| {
+            let refused = numbers.iter().zip(places).find(|&(_, &place)| is_wrong(place));
+            refused.map_or(Ok(()), |(&number, _)| Err(number))
+        };
+        let (stamp, elapsed) = (if is_wrong(0) { 60_000 } else { 59_999 }, if is_wrong(2) { 4_096 } else { 4_095 });
+        let (payload, short) = (vec![1; if is_wrong(1) { 4_096 } else { 4_095 }], usize::from(is_wrong(4)));
+        let data = Data { stamp, number: Packets(1), elapsed: Octets(elapsed), payload: &payload };
+        let room = 11 + payload.len() - short;
+        let expected = write_data(stamp, 1, elapsed, &payload, room);
+        let answer = write_alike(&mut noise, room, wrong, expected, |out| data.write(out));
+        assert_eq!(answer.map(|_| ()), first(&[5, 20, 8, 12], &[0, 1, 2, 4]));
+        let closing = Closing { stamp, number: 1, elapsed, total_packets: 1, total_octets: elapsed };
+        let expected = write_closing(&closing, 18 - short);
+        let answer = write_alike(&mut noise, 18 - short, wrong, expected, |out| given(&closing).write(out));
+        assert_eq!(answer.map(|_| ()), first(&[5, 8, 12], &[0, 2, 4]));
+        let lengths = [if is_wrong(3) { 4_094 } else { 4_095 }];
+        let expected = write_with_lengths(&closing, &lengths, 21 - short);
+        let answer = write_alike(&mut noise, 21 - short, wrong, expected, |out| given(&closing).write_with_lengths(&lengths, out));
+        assert_eq!(answer.map(|_| ()), first(&[5, 8, 22, 12], &[0, 2, 3, 4]));
+    }
+}
+
 /// Document 01's examples A to D and J; D with the payload check that the rule gives.
 #[test]
 fn bench_examples_are_written() {

@@ -1,31 +1,32 @@
 //! Compiled records beside records written on their own from document 01: good frames, contradicting ones, and damaged lists.
 
 use crate::counted::{FRESH, HEARD};
+use crate::fences::{Fenced, FencedRecord};
 use crate::frames::Reader;
 use crate::generate;
 use crate::peers::Noise;
 use crate::records::{PlainRecord, Written};
-use crate::sequences::{DAMAGES, LONGEST, Sequence, Tally, any_capacity, at_a_bound, below, damage, lists, next_to, numbered, one_in};
+use crate::sequences::{DAMAGES, LONGEST, Sequence, Tally, any_capacity, at_a_bound, below, damage, next_to, numbered, one_in};
 use quimdoral::{Key, Record, lent};
 
-/// Hears with the library and with the peer, and compares the answers and every number of the record afterwards.
+/// Hears with the library and with the peer, and compares the answers and every number of the record afterwards, fences included.
 fn hear_alike(record: &mut Written, reader: &Reader, (bearer, period): (u32, u32), frame: &[u8]) -> Result<(), u8> {
-    let mut ours = record.clone();
-    let answer = numbered(lent::hear(lists(&mut ours), bearer, period, frame));
+    let mut ours = FencedRecord::around(record);
+    let answer = numbered(lent::hear(ours.lists(), bearer, period, frame));
     let before = record.clone();
     let expected = record.hear(reader, bearer, period, frame);
     let input = || format!("bearer {bearer}, period {period}, frame {:02X?}, record {before:?}", &frame[..frame.len().min(24)]);
     assert_eq!(answer, expected, "{}", input());
-    assert!(ours == *record, "the records differ: {}, ours after {ours:?}", input());
-    assert!(answer.is_ok() || ours == before, "a refusal changed the record: {}", input());
+    assert!(ours == FencedRecord::around(record), "the records differ: {}, ours after {ours:?}", input());
+    assert!(answer.is_ok() || *record == before, "a refusal changed the record: {}", input());
     answer
 }
 
 fn fresh_alike(record: &mut Written, Key { bearer, period, stamp }: Key) -> Result<(), u8> {
-    let mut ours = record.clone();
-    let answer = numbered(lent::fresh(Key { bearer, period, stamp }, lists(&mut ours)));
+    let mut ours = FencedRecord::around(record);
+    let answer = numbered(lent::fresh(Key { bearer, period, stamp }, ours.lists()));
     assert_eq!(answer, record.fresh(bearer, period, stamp), "key {bearer} {period} {stamp}, capacity {}", record.marks.len());
-    assert!(ours == *record, "the records differ: key {bearer} {period} {stamp}, capacity {}", record.marks.len());
+    assert!(ours == FencedRecord::around(record), "the records differ: key {bearer} {period} {stamp}, capacity {}", record.marks.len());
     answer
 }
 
@@ -207,20 +208,33 @@ fn hear_all_alike(noise: &mut Noise, reader: &Reader) -> Result<(), u8> {
         told.push(expected.hear(reader, bearer, period, frame).err().unwrap_or(0));
         from = end as usize;
     }
-    let dirty = noise.octets(capacity);
-    let mut ours = Written { head: vec![5; 6], marks: dirty, elapsed: vec![7; capacity], sizes: vec![9; capacity] };
-    let before = ours.clone();
+    hear_all_as_told(noise, sequence.key, (&octets, &ends), expected, &told)
+}
+
+/// The call itself, at times with lists that do not match, a stamp that is too high or too little room: 14, 5, 12.
+fn hear_all_as_told(noise: &mut Noise, mut key: Key, (octets, ends): (&[u8], &[u32]), expected: Written, told: &[u8]) -> Result<(), u8> {
+    let capacity = expected.marks.len();
+    let mut memory = Written { head: vec![5; 6], marks: noise.octets(capacity), elapsed: vec![7; capacity], sizes: vec![9; capacity] };
     let room = ends.len() + 2 - below(noise, 4) as usize % (ends.len() + 3);
-    let mut numbers = vec![77; room];
-    let answer = numbered(lent::hear_all(sequence.key, lists(&mut ours), &octets, &ends, &mut numbers));
-    assert_eq!(answer, if room < ends.len() { Err(12) } else { Ok(()) });
-    if answer.is_ok() {
-        assert_eq!((&numbers[..ends.len()], &numbers[ends.len()..]), (&told[..], &[77; 3][..room - ends.len()]));
-        assert!(ours == expected, "the records differ: ends {ends:?}, ours {ours:?}, expected {expected:?}");
-    } else {
-        assert!(ours == before && numbers.iter().all(|&number| number == 77), "a refusal changed something");
+    let mut numbers = noise.octets(room);
+    if one_in(noise, 8) {
+        let way = 10 + below(noise, 2);
+        damage(noise, &mut memory, way);
     }
-    answer
+    if one_in(noise, 8) {
+        key.stamp = [60_000, u32::MAX][below(noise, 2) as usize];
+    }
+    let refusal = memory.lists_fit().and(if key.stamp > 59_999 { Err(5) } else { Ok(()) });
+    let refusal = refusal.and(if numbers.len() < ends.len() { Err(12) } else { Ok(()) });
+    let (mut ours, mut answers) = (FencedRecord::around(&memory), Fenced::around(&numbers));
+    assert_eq!(numbered(lent::hear_all(key, ours.lists(), octets, ends, answers.lent())), refusal);
+    if refusal.is_ok() {
+        numbers[..told.len()].copy_from_slice(told);
+        memory = expected;
+    }
+    assert!(ours == FencedRecord::around(&memory), "the records differ: ends {ends:?}, ours {ours:?}, expected {memory:?}");
+    assert!(answers == Fenced::around(&numbers), "the answers differ: ends {ends:?}, ours {answers:?}, expected {numbers:?}");
+    refusal
 }
 
 #[test]
@@ -229,7 +243,7 @@ fn frames_in_one_call_are_heard_alike() {
     for _ in 0..HEARD[3] {
         tally.add(hear_all_alike(&mut noise, &reader));
     }
-    assert!(tally.calls() == HEARD[3] && [0, 12].iter().all(|&answer| tally.0[answer] > 1_000), "{tally:?}");
+    assert!(tally.calls() == HEARD[3] && [0, 5, 12, 14].iter().all(|&answer| tally.0[answer] > 1_000), "{tally:?}");
 }
 
 #[test]
