@@ -1,7 +1,7 @@
 //! The sender of document 01 as a plain Rust program would keep it, in the six numbers that the library keeps it in.
 //!
-//! Written from document 01 and TS 25.446. Of the library, its writer had read what the exported functions take and answer, and none of
-//! the functions that they call.
+//! Written from document 01. Of the library, its writer had read `docs/` and the exported functions in `crates/quimdoral`, and none of the
+//! functions that they call.
 #![allow(dead_code)]
 
 use crate::frames::Closing;

@@ -1,7 +1,7 @@
 //! The clock of document 01 in plain whole numbers, brought back into 32 bits by division.
 //!
-//! Written from document 01. Of the library, its writer had read what the exported functions take and answer, and none of the functions
-//! that they call.
+//! Written from document 01. Of the library, its writer had read `docs/` and the exported functions in `crates/quimdoral`, and none of the
+//! functions that they call.
 #![allow(dead_code)]
 
 const ROUND: i64 = 1 << 32;

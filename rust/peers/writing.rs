@@ -1,7 +1,7 @@
 //! Writing frames as a plain Rust program would: field by field and bit by bit, with checks by long division.
 //!
-//! Written from document 01 and TS 25.446. Of the library, its writer had read what the exported functions take and answer, and none of
-//! the functions that they call.
+//! Written from document 01, and compared with clauses 5.5 and 5.6 of TS 25.446. Of the library, its writer had read `docs/` and the
+//! exported functions in `crates/quimdoral`, and none of the functions that they call.
 #![allow(dead_code)]
 
 use crate::frames::Closing;
