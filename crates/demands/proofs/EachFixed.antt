@@ -19,12 +19,14 @@ use Rattle.sender.specs.declared.Turned.{Turned}
 use Rattle.sender.specs.declared.Turned.the-variants.{Done as TurnDone, Refused as NotTurned}
 use Rattle.sender.specs.declared.Turning.{Turning}
 use Rattle.sender.specs.Calls.{turnedPaper, Turns, Sends}
+use Rattle.reception.specs.declared.Joining.{Joining}
 use Rattle.reception.specs.declared.Reported.{Reported}
 use Rattle.reception.specs.declared.Taken.{Taken}
 use Rattle.reception.specs.declared.Taking.{Taking}
 use Rattle.reception.specs.Hearing.{Kept, Outcome, Takes}
+use Rattle.reception.specs.Joining.{JoinOutcome, Joins}
 use Rattle.reception.specs.Reporting.{Reports}
-use Rattle.reception.proofs.OnePaper.{taken-known, report-once}
+use Rattle.reception.proofs.OnePaper.{taken-known, joined-known, report-once}
 use Rattle.several.specs.Rest.{HearsSequence}
 use Rattle.demands.specs.OneOutcome.{Fixes, OneOutcome}
 
@@ -52,6 +54,12 @@ takes-one t =
     fixed-by (λ (o : Taking × List ℕ × List ℕ × List ℕ). Takes t (o .0) (o .1) (o .2) (o .3))
     (record { answer = t .answer; head = t .kept .head }, t .kept .marks, t .kept .elapsed, t .kept .sizes)
     (λ o p. λ i. (record { answer = taken-known (o .0 .answer) (t .answer) (p .says) i; head = p .leaves i .head }, p .leaves i .marks, p .leaves i .elapsed, p .leaves i .sizes))
+
+joins-one : (t : JoinOutcome) → Fixes (λ (o : Joining × List ℕ × List ℕ × List ℕ). Joins t (o .0) (o .1) (o .2) (o .3))
+joins-one t =
+    fixed-by (λ (o : Joining × List ℕ × List ℕ × List ℕ). Joins t (o .0) (o .1) (o .2) (o .3))
+    (record { answer = t .answer; head = t .kept .head }, t .kept .marks, t .kept .elapsed, t .kept .sizes)
+    (λ o p. λ i. (record { answer = joined-known (o .0 .answer) (t .answer) (p .says) i; head = p .leaves i .head }, p .leaves i .marks, p .leaves i .elapsed, p .leaves i .sizes))
 
 lists : (s old : List ℕ) → Fixes (λ (o : Listed × List ℕ). Lists s old (o .0) (o .1))
 lists s old =
@@ -111,6 +119,6 @@ one-outcome =
       fresh = λ bearer period stamp marks elapsed sizes. takes-one _;
       hear = λ k bearer period f. takes-one _;
       hear-sequence = sequences;
-      join = λ a b q r m₁ e₁ s₁ m₂ e₂ s₂ x y. (x .says ∙ sym (y .says), x .leaves ∙ sym (y .leaves));
+      join = λ a b. joins-one _;
       report = reports;
     }

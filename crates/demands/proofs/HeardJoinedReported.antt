@@ -15,7 +15,7 @@ use Rattle.reception.specs.declared.Taken.{Taken as TakenAnswer}
 use Rattle.reception.specs.declared.Taken.the-variants.{Done as TakenDone, Refused as NotTaken}
 use Rattle.reception.specs.Sendings.{Explains}
 use Rattle.reception.specs.Hearing.{Kept, Outcome, heldBy, hearFrame, takenPaper}
-use Rattle.reception.specs.Joining.{JoinOutcome, joins, joinRecords, joinedPaper}
+use Rattle.reception.specs.Joining.{JoinPaper, JoinOutcome, joins, joinRecords, joinedPaper}
 use Rattle.reception.specs.Missing.{GapsRight}
 use Rattle.reception.specs.Reporting.{Gap, gapsOf, gapsAfter, reportRecord, reportOf, Reports, roomOf}
 use Rattle.reception.proofs.DamagedExactly.{undamaged-passed}
@@ -49,6 +49,9 @@ join-done (NotJoined r) e = absurd (omega (arith, e))
 abbrev accepted-of : CountPaper → ℕ
 accepted-of p = p .accepted
 
+abbrev join-accepted : JoinPaper → ℕ
+join-accepted p = p .accepted
+
 -- what was heard
 module _ (k : Kept) (bearer period : ℕ) (f : List ℕ) (o : Outcome) (h : HeardAs k bearer period f o) (t : Taken o) where
   heard-done : hearFrame k bearer period f .answer ≡ TakenDone
@@ -57,11 +60,11 @@ module _ (k : Kept) (bearer period : ℕ) (f : List ℕ) (o : Outcome) (h : Hear
 -- what was joined
 module _ (a b : Kept) (o : JoinOutcome) (h : JoinedAs a b o) where
   joined-done : Accepted o → joinRecords a b .answer ≡ JoinDone
-  joined-done t = join-done _ (sym (ap accepted-of (h .says)) ∙ t)
+  joined-done t = join-done _ (sym (ap join-accepted (h .says)) ∙ t)
 
   done-joined : joinRecords a b .answer ≡ JoinDone → Accepted o
   unfolding joinedPaper
-  done-joined e = ap accepted-of (h .says ∙ ap joinedPaper e)
+  done-joined e = ap join-accepted (h .says ∙ ap joinedPaper e)
 
   joined-all : (k : Kept) → joinRecords a b ≡ joins k → Accepted o × (o .kept ≡ k)
   joined-all k e = (done-joined (ap (λ (x : JoinOutcome). x .answer) e), h .leaves ∙ ap (λ (x : JoinOutcome). x .kept) e)
@@ -140,7 +143,8 @@ demand-3 =
           let x = packet-heard k bearer period f d e (heard-done k bearer period f o h t) in
           (ap heldBy (h .leaves) ∙ x .holds, ap (λ (y : Kept). y .head) (h .leaves) ∙ x .same-head);
       closing-added = λ k bearer period f c o e h t.
-          ap heldBy (h .leaves) ∙ closing-heard k bearer period f c e (heard-done k bearer period f o h t) .holds;
+          let x = closing-heard k bearer period f c e (heard-done k bearer period f o h t) in
+          (ap heldBy (h .leaves) ∙ x .holds, ap (λ (y : Kept). y .head) (h .leaves ∙ x .kept-is));
       holds-both = holds;
       either-order = either-way;
       grouped = three;

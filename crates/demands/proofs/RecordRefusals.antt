@@ -20,17 +20,17 @@ use Rattle.reception.specs.declared.Reported.the-variants.{Done, Refused}
 use Rattle.reception.specs.declared.Taking.{Taking}
 use Rattle.reception.specs.Adding.{packetContradicts, closingContradicts}
 use Rattle.reception.specs.Hearing.{Kept, Outcome, keptIn, heldBy, unused, unmatched, damagedKept, listsDiffer, otherKey, freshRecord, hearPacket, hearClosing, hearRead, hearFrame, takenPaper, Takes}
-use Rattle.reception.specs.Joining.{JoinOutcome, capacitiesOff, otherRecord, lowest, ownClosingOff, joinRecords, joinedPaper, Joins}
+use Rattle.reception.specs.Joining.{JoinPaper, JoinOutcome, capacitiesOff, otherRecord, lowest, ownClosingOff, joinRecords, joinedPaper, Joins}
 use Rattle.reception.specs.Reporting.{Gap, ReportPaper, gapsOf, gapsAfter, reportRecord, reportedPaper, roomOf, Reports}
 use Rattle.demands.specs.Demand1.{among, carries, ofFresh, ofJoining, ofReport, ofReading, ofHearing, Leaves}
 use Rattle.demands.proofs.Refusals.{accepted-of, no-zero, among-more, read-carries}
 
 -- fresh records, and hearing
 abbrev pub OutcomeLeaves : List ℕ → Kept → Outcome → Type 0
-OutcomeLeaves numbers old t = Leaves numbers old (takenPaper (t .answer)) (t .kept)
+OutcomeLeaves numbers old t = Leaves numbers old (takenPaper (t .answer) .number) (takenPaper (t .answer) .accepted) (t .kept)
 
 pub takes-leaves : (numbers : List ℕ) (old : Kept) (t : Outcome) (r : Taking) (m e s : List ℕ) → OutcomeLeaves numbers old t → Takes t r m e s
-    → Leaves numbers old (takenPaper (r .answer)) (keptIn (r .head) m e s)
+    → Leaves numbers old (takenPaper (r .answer) .number) (takenPaper (r .answer) .accepted) (keptIn (r .head) m e s)
 takes-leaves numbers old t r m e s c w = (rw (w .says) (c .0), λ z. w .leaves ∙ c .1 (sym (ap accepted-of (w .says)) ∙ z))
 
 pub fresh-leaves : (bearer period stamp : ℕ) (marks elapsed sizes : List ℕ)
@@ -76,11 +76,11 @@ hear-leaves k bearer period f =
 
 -- joining
 abbrev pub JoinLeaves : Kept → JoinOutcome → Type 0
-JoinLeaves a t = Leaves ofJoining a (joinedPaper (t .answer)) (t .kept)
+JoinLeaves a t = Leaves ofJoining a (joinedPaper (t .answer) .number) (joinedPaper (t .answer) .accepted) (t .kept)
 
 pub joins-leaves : (a : Kept) (t : JoinOutcome) (r : Joining) (m e s : List ℕ) → JoinLeaves a t → Joins t r m e s
-    → Leaves ofJoining a (joinedPaper (r .answer)) (keptIn (r .head) m e s)
-joins-leaves a t r m e s c w = (rw (w .says) (c .0), λ z. w .leaves ∙ c .1 (sym (ap accepted-of (w .says)) ∙ z))
+    → Leaves ofJoining a (joinedPaper (r .answer) .number) (joinedPaper (r .answer) .accepted) (keptIn (r .head) m e s)
+joins-leaves a t r m e s c w = (rw (w .says) (c .0), λ z. w .leaves ∙ c .1 (sym (ap (λ (p : JoinPaper). p .accepted) (w .says)) ∙ z))
 
 pub join-leaves : (a b : Kept) → JoinLeaves a (joinRecords a b)
 unfolding joinRecords joinedPaper among

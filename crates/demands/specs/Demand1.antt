@@ -112,8 +112,8 @@ TurnsOn numbers s r =
     × (turnedPaper (r .answer) .accepted ≡ 0 → r .sender ≡ s)
 
 -- what a call of a record does: refused, it is as before
-abbrev pub Leaves : List ℕ → Kept → CountPaper → Kept → Type 0
-Leaves numbers old p new = (carries numbers (p .number) (p .accepted) ≡ true) × (p .accepted ≡ 0 → new ≡ old)
+abbrev pub Leaves : List ℕ → Kept → ℕ → ℕ → Kept → Type 0
+Leaves numbers old number taken new = (carries numbers number taken ≡ true) × (taken ≡ 0 → new ≡ old)
 
 -- the demand, call by call: of any outcome that meets the promise
 pub record Demand1 : Type 0 where
@@ -140,11 +140,11 @@ pub record Demand1 : Type 0 where
       → carries ofDue (duePaper r .number) (duePaper r .accepted) ≡ true
   pub fresh-record : (bearer period stamp : ℕ) (marks elapsed sizes : List ℕ) (r : Taking) (m e s : List ℕ)
       → Takes (freshRecord bearer period stamp marks elapsed sizes) r m e s
-      → Leaves ofFresh (unused marks elapsed sizes) (takenPaper (r .answer)) (keptIn (r .head) m e s)
+      → Leaves ofFresh (unused marks elapsed sizes) (takenPaper (r .answer) .number) (takenPaper (r .answer) .accepted) (keptIn (r .head) m e s)
   pub hearing : (k : Kept) (bearer period : ℕ) (f : List ℕ) (r : Taking) (m e s : List ℕ) → Takes (hearFrame k bearer period f) r m e s
-      → Leaves ofHearing k (takenPaper (r .answer)) (keptIn (r .head) m e s)
+      → Leaves ofHearing k (takenPaper (r .answer) .number) (takenPaper (r .answer) .accepted) (keptIn (r .head) m e s)
   pub joining : (a b : Kept) (r : Joining) (m e s : List ℕ) → Joins (joinRecords a b) r m e s
-      → Leaves ofJoining a (joinedPaper (r .answer)) (keptIn (r .head) m e s)
+      → Leaves ofJoining a (joinedPaper (r .answer) .number) (joinedPaper (r .answer) .accepted) (keptIn (r .head) m e s)
   pub reporting : (k : Kept) (firsts counts octets : List ℕ) (r : Reported) (f c o : List ℕ) → Reports k firsts counts octets r f c o
       → (carries ofReport (reportedPaper r .number) (reportedPaper r .accepted) ≡ true)
       × (reportedPaper r .accepted ≡ 0 → (f ≡ firsts) × (c ≡ counts) × (o ≡ octets))

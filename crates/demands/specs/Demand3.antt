@@ -16,7 +16,7 @@ use Rattle.reception.specs.declared.Report.{Report}
 use Rattle.reception.specs.declared.Reported.{Reported}
 use Rattle.reception.specs.declared.Reported.the-variants.{Done}
 use Rattle.reception.specs.Sendings.{Held, Heard, Explains}
-use Rattle.reception.specs.Adding.{withPacket, withClosing}
+use Rattle.reception.specs.Adding.{closedHead, withPacket, withClosing}
 use Rattle.reception.specs.Damage.{Undamaged, Matched}
 use Rattle.reception.specs.Hearing.{Kept, Outcome, heldBy, emptyKept, hearFrame, takenPaper, Takes}
 use Rattle.reception.specs.Joining.{JoinOutcome, joinRecords, joinedPaper, Joins}
@@ -76,7 +76,7 @@ pub record Demand3 : Type 0 where
       → (heldBy (o .kept) ≡ withPacket (heldBy k) (d .number .0) (d .elapsed .0) (d .length .0)) × (o .kept .head ≡ k .head)
   pub closing-added : (k : Kept) (bearer period : ℕ) (f : List ℕ) (c : ClosingPdu) (o : Outcome)
       → (readFrame f ≡ Closing c) ⊎ (readFrame f ≡ ClosingWithLengths c) → HeardAs k bearer period f o → Taken o
-      → heldBy (o .kept) ≡ withClosing (heldBy k) (c .number .0) (c .elapsed .0)
+      → (heldBy (o .kept) ≡ withClosing (heldBy k) (c .number .0) (c .elapsed .0)) × (o .kept .head ≡ closedHead (k .head) (c .number .0) (c .elapsed .0))
   -- "joining obeys the laws of a union"
   pub holds-both : (a b : Kept) (o : JoinOutcome) → JoinedAs a b o → Accepted o → HoldsBoth (heldBy a) (heldBy b) (heldBy (o .kept))
   pub either-order : (a b : Kept) (o p : JoinOutcome) → JoinedAs a b o → JoinedAs b a p → Accepted o → Accepted p × (o .kept ≡ p .kept)

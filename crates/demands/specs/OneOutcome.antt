@@ -27,8 +27,8 @@ use Rattle.reception.specs.declared.Joining.{Joining}
 use Rattle.reception.specs.declared.Reported.{Reported}
 use Rattle.reception.specs.declared.Taken.{Taken}
 use Rattle.reception.specs.declared.Taking.{Taking}
-use Rattle.reception.specs.Hearing.{Kept, Outcome, keptIn, freshRecord, hearFrame, Takes}
-use Rattle.reception.specs.Joining.{joinRecords, joinedPaper, Joins}
+use Rattle.reception.specs.Hearing.{Kept, Outcome, freshRecord, hearFrame, Takes}
+use Rattle.reception.specs.Joining.{joinRecords, Joins}
 use Rattle.reception.specs.Reporting.{Reports}
 use Rattle.several.specs.Rest.{HearsSequence}
 
@@ -72,8 +72,6 @@ pub record OneOutcome : Type 0 where
       → Fixes (λ (o : Taking × Lent × Lent × Lent). Takes (hearFrame k bearer period f) (o .0) (o .1) (o .2) (o .3))
   pub hear-sequence : (t : Outcome) (ts : List Taken) (old : List ℕ)
       → Fixes (λ (o : Taking × Lent × Lent × Lent × Lent). HearsSequence t ts old (o .0) (o .1) (o .2) (o .3) (o .4))
-  -- of a join the answers are one on paper: a refusal 11 that names nothing reads there as one that names packet 0
-  pub join : (a b : Kept) (q r : Joining) (m₁ e₁ s₁ m₂ e₂ s₂ : List ℕ) → Joins (joinRecords a b) q m₁ e₁ s₁ → Joins (joinRecords a b) r m₂ e₂ s₂
-      → (joinedPaper (q .answer) ≡ joinedPaper (r .answer)) × (keptIn (q .head) m₁ e₁ s₁ ≡ keptIn (r .head) m₂ e₂ s₂)
+  pub join : (a b : Kept) → Fixes (λ (o : Joining × Lent × Lent × Lent). Joins (joinRecords a b) (o .0) (o .1) (o .2) (o .3))
   pub report : (k : Kept) (firsts counts octets : List ℕ)
       → Fixes (λ (o : Reported × Lent × Lent × Lent). Reports k firsts counts octets (o .0) (o .1) (o .2) (o .3))

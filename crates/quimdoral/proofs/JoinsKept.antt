@@ -12,12 +12,11 @@ use Rattle.units.specs.Limits.{mostCapacity}
 use Rattle.units.specs.Refusals.{contradiction, capacitiesDiffer}
 use Rattle.fields.specs.Runs.{front}
 use Rattle.fields.proofs.Tests.{or-false}
-use Rattle.frame.specs.Paper.{CountPaper}
 use Rattle.reception.specs.declared.Joined.{Joined}
 use Rattle.reception.specs.declared.Joined.the-variants.{Done, Contradicted, Refused}
 use Rattle.reception.specs.declared.Joining.{Joining}
 use Rattle.reception.specs.Hearing.{Kept, heldBy, unmatched, damagedKept}
-use Rattle.reception.specs.Joining.{JoinOutcome, capacitiesOff, otherRecord, lowest, ownClosingOff, joinRecords, joinedPaper, Joins}
+use Rattle.reception.specs.Joining.{JoinPaper, JoinOutcome, capacitiesOff, otherRecord, lowest, ownClosingOff, joinRecords, joinedPaper, Joins}
 use Rattle.reception.proofs.KeptAsHeld.{lists-matched}
 use Rattle.quimdoral.specs.Records.{numbersOf}
 use Rattle.quimdoral.specs.Joins.{joinNumber, joinedHeadAfter, KeepsJoined}
@@ -25,7 +24,7 @@ use Rattle.fields.proofs.Choosing.{tested}
 
 -- what a join names has at most 17 bits
 abbrev Small : JoinOutcome → Type 0
-Small t = joinedPaper (t .answer) .count ≤ 65536
+Small t = joinedPaper (t .answer) .named ≤ 65536
 
 below-capacity : (a b : Kept) → capacitiesOff a b ≡ false → length (a .marks) ≤ mostCapacity
 below-capacity a b h = lists-matched (a .marks) (a .elapsed) (a .sizes) (or-false (unmatched a) (unmatched b || not (eqb (length (a .marks)) (length (b .marks)))) h .0) .room
@@ -50,7 +49,7 @@ named-small a b =
 pub named-fits : (a b : Kept) (r : Joining) (marks elapsed sizes : List ℕ) (n : ℕ) → Joins (joinRecords a b) r marks elapsed sizes → r .answer ≡ Contradicted n → n ≤ 65536
 unfolding joinedPaper
 named-fits a b r marks elapsed sizes n p e =
-    let q : n ≡ joinedPaper (joinRecords a b .answer) .count = ap (λ (x : CountPaper). x .count) (ap joinedPaper (sym e) ∙ p .says) in
+    let q : n ≡ joinedPaper (joinRecords a b .answer) .named = ap (λ (x : JoinPaper). x .named) (ap joinedPaper (sym e) ∙ p .says) in
     let s = named-small a b in
     omega (arith, q, s)
 
@@ -76,7 +75,7 @@ module _ (old other : List ℕ) (k : Kept) (t : JoinOutcome) (r : Joining) (mark
       let a = le-ltb (length old) 6 g in
       let b = le-ltb (length other) 6 h in
       record {
-        says = e ∙ ap (λ (y : CountPaper). y .number + 256 * y .count) (p .says) ∙ rw (a, b) refl;
+        says = e ∙ ap (λ (y : JoinPaper). y .number + 256 * y .named) (p .says) ∙ rw (a, b) refl;
         leaves-head = l ∙ rw (a, b) refl;
         leaves-marks = ap (λ (y : Kept). y .marks) (p .leaves) ∙ rw (a, b) refl;
         leaves-elapsed = ap (λ (y : Kept). y .elapsed) (p .leaves) ∙ rw (a, b) refl;
@@ -89,7 +88,7 @@ module _ (old other : List ℕ) (k : Kept) (t : JoinOutcome) (r : Joining) (mark
   stays z = go (t .answer) refl
     where
       same : joinedPaper (t .answer) .accepted ≡ 0
-      same = sym (ap (λ (y : CountPaper). y .accepted) (p .says)) ∙ z
+      same = sym (ap (λ (y : JoinPaper). y .accepted) (p .says)) ∙ z
 
       go : (a : Joined) → t .answer ≡ a → old ≡ joinedHeadAfter (t .answer) old (t .kept .head)
       go Done f = let w : _≡_ {A = ℕ} 1 0 = ap (λ (a : Joined). joinedPaper a .accepted) (sym f) ∙ same in absurd (omega (arith, w))
@@ -109,7 +108,7 @@ module _ (old other : List ℕ) (k : Kept) (t : JoinOutcome) (r : Joining) (mark
   join-done new e l = joined-as 0 new (rw e refl) (l ∙ goes (t .answer) refl)
     where
       same : joinedPaper (t .answer) .accepted ≡ 1
-      same = sym (ap (λ (y : CountPaper). y .accepted) (p .says)) ∙ rw e refl
+      same = sym (ap (λ (y : JoinPaper). y .accepted) (p .says)) ∙ rw e refl
 
       goes : (a : Joined) → t .answer ≡ a → front old (numbersOf (r .head)) ≡ joinedHeadAfter (t .answer) old (t .kept .head)
       goes Done f = rw f (ap (λ (y : Kept). front old (numbersOf (y .head))) (p .leaves))

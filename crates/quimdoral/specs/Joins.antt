@@ -16,7 +16,7 @@ use Rattle.quimdoral.specs.Records.{numbersOf}
 
 -- 0, or the refusal's number; with 11, the number that it names is added 256 times
 abbrev pub joinNumber : Joined → ℕ
-joinNumber t = joinedPaper t .number + 256 * joinedPaper t .count
+joinNumber t = joinedPaper t .number + 256 * joinedPaper t .named
 
 -- the list of the left's head after: its numbers in front; or, refused, what it held
 abbrev pub joinedHeadAfter : Joined → List ℕ → Head → List ℕ

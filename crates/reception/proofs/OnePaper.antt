@@ -1,15 +1,7 @@
--- An answer about a record is known from its number and values: no two answers have the same, but that a join refused with 11 may name
--- packet 0 or be refused plainly. Assumes nothing.
+-- An answer about a record is known from its number and values: no two answers have the same. Assumes nothing.
 use Prim.Native.Nat.{ℕ, zero, suc}
 use mathlib.Core.Path.{_≡_, refl, sym, ap, _∙_}
-use mathlib.Core.Bool.{Bool, true, false, _||_}
 use mathlib.Core.List.{List}
-use native.Mathlib.Omega.{arith}
-use lib.Dec.{eqb, ltb}
-use lib.ListN.{length}
-use borrow.Author.Tests.{ne-eqb}
-use Rattle.units.specs.Refusals.{contradiction}
-use Rattle.fields.proofs.Choosing.{whichever}
 use Rattle.frame.specs.Paper.{CountPaper}
 use Rattle.reception.specs.declared.Taken.{Taken}
 use Rattle.reception.specs.declared.Taken.the-variants.{Done as TakenDone, Refused as NotTaken}
@@ -17,8 +9,8 @@ use Rattle.reception.specs.declared.Joined.{Joined}
 use Rattle.reception.specs.declared.Joined.the-variants.{Done as JoinedDone, Contradicted, Refused as NotJoined}
 use Rattle.reception.specs.declared.Reported.{Reported}
 use Rattle.reception.specs.declared.Reported.the-variants.{Done as ReportedDone, Refused as NotReported}
-use Rattle.reception.specs.Hearing.{Kept, heldBy, damagedKept, takenPaper}
-use Rattle.reception.specs.Joining.{JoinOutcome, capacitiesOff, otherRecord, lowest, ownClosingOff, joinRecords, joinedPaper}
+use Rattle.reception.specs.Hearing.{Kept, takenPaper}
+use Rattle.reception.specs.Joining.{JoinPaper, joinedPaper}
 use Rattle.reception.specs.Reporting.{ReportPaper, reportedPaper, Reports}
 
 -- the answer that a paper is of
@@ -56,47 +48,19 @@ reported-from (NotReported r) = refl
 pub reported-known : (a b : Reported) → reportedPaper a ≡ reportedPaper b → a ≡ b
 reported-known a b e = sym (reported-from a) ∙ ap (λ (p : ReportPaper). reportedFrom (p .accepted) p) e ∙ reported-from b
 
--- refused for another reason than a contradiction, which a join answers with the number that it names
-abbrev pub Plain : Joined → Type 0
-Plain JoinedDone = Unit {0}
-Plain (Contradicted n) = Unit {0}
-Plain (NotJoined r) = r .number ≡ contradiction → ⊥
+joinedFrom : ℕ → ℕ → JoinPaper → Joined
+joinedFrom (suc k) m p = JoinedDone
+joinedFrom zero (suc m) p = Contradicted (p .named)
+joinedFrom zero zero p = NotJoined (record { number = p .number })
 
-joinedFrom : ℕ → Bool → CountPaper → Joined
-joinedFrom (suc k) b p = JoinedDone
-joinedFrom zero true p = Contradicted (p .count)
-joinedFrom zero false p = NotJoined (record { number = p .number })
-
-joined-from : (a : Joined) → Plain a → joinedFrom (joinedPaper a .accepted) (eqb (joinedPaper a .number) contradiction) (joinedPaper a) ≡ a
+joined-from : (a : Joined) → joinedFrom (joinedPaper a .accepted) (joinedPaper a .names) (joinedPaper a) ≡ a
 unfolding joinedFrom joinedPaper
-joined-from JoinedDone h = refl
-joined-from (Contradicted n) h = refl
-joined-from (NotJoined r) h = rw (ne-eqb (r .number) contradiction h)
+joined-from JoinedDone = refl
+joined-from (Contradicted n) = refl
+joined-from (NotJoined r) = refl
 
-pub joined-known : (a b : Joined) → Plain a → Plain b → joinedPaper a ≡ joinedPaper b → a ≡ b
-joined-known a b f g e =
-    sym (joined-from a f) ∙ ap (λ (p : CountPaper). joinedFrom (p .accepted) (eqb (p .number) contradiction) p) e ∙ joined-from b g
-
--- every answer of a join is plain
-abbrev AnswersPlain : JoinOutcome → Type 0
-AnswersPlain o = Plain (o .answer)
-
-pub join-plain : (a b : Kept) → Plain (joinRecords a b .answer)
-unfolding joinRecords
-join-plain a b =
-    whichever AnswersPlain _ _ (capacitiesOff a b) (λ e. omega (arith, e))
-    (λ _.
-    whichever AnswersPlain _ _ (damagedKept a || damagedKept b) (λ e. omega (arith, e))
-    (λ _.
-    whichever AnswersPlain _ _ (otherRecord a b) (λ e. omega (arith, e))
-    (λ _.
-    whichever AnswersPlain _ _ (ltb (lowest (heldBy a) (heldBy b)) (length (a .marks))) tt
-    (λ _. whichever AnswersPlain _ _ (ownClosingOff (heldBy a) (heldBy b)) tt (λ _. tt)))))
-
--- the two answers of one paper
-pub eleven-twice : joinedPaper (Contradicted 0) ≡ joinedPaper (NotJoined (record { number = contradiction }))
-unfolding joinedPaper
-eleven-twice = refl
+pub joined-known : (a b : Joined) → joinedPaper a ≡ joinedPaper b → a ≡ b
+joined-known a b e = sym (joined-from a) ∙ ap (λ (p : JoinPaper). joinedFrom (p .accepted) (p .names) p) e ∙ joined-from b
 
 -- a report and what it leaves are one
 module _ (k : Kept) (firsts counts octets : List ℕ) (r q : Reported) (f₁ c₁ o₁ f₂ c₂ o₂ : List ℕ) where

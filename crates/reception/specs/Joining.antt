@@ -8,7 +8,6 @@ use lib.Dec.{ltb, eqb}
 use lib.ListN.{length}
 use Rattle.units.specs.Refusals.{refusing, otherSequence, contradiction, recordDamaged, capacitiesDiffer}
 use Rattle.fields.specs.Choice.{_when_otherwise_}
-use Rattle.frame.specs.Paper.{CountPaper}
 use Rattle.reception.specs.declared.Head.{Head}
 use Rattle.reception.specs.declared.Joined.{Joined}
 use Rattle.reception.specs.declared.Joined.the-variants.{Done, Contradicted, Refused}
@@ -112,11 +111,17 @@ joinRecords a b =
     contradicts a closingNamed when ownClosingOff (heldBy a) (heldBy b) otherwise
     joins (joinedKept a b)
 
--- document 01's number, whether it was accepted, and what refusal 11 names
-unfoldable pub joinedPaper : Joined → CountPaper
-joinedPaper Done = record { number = 0; accepted = 1; count = 0 }
-joinedPaper (Contradicted n) = record { number = contradiction; accepted = 0; count = n }
-joinedPaper (Refused r) = record { number = r .number; accepted = 0; count = 0 }
+-- document 01's number, whether it was accepted, whether it names a packet number or the closing, and which
+pub record JoinPaper : Type 0 where
+  pub number : ℕ
+  pub accepted : ℕ
+  pub names : ℕ
+  pub named : ℕ
+
+unfoldable pub joinedPaper : Joined → JoinPaper
+joinedPaper Done = record { number = 0; accepted = 1; names = 0; named = 0 }
+joinedPaper (Contradicted n) = record { number = contradiction; accepted = 0; names = 1; named = n }
+joinedPaper (Refused r) = record { number = r .number; accepted = 0; names = 0; named = 0 }
 
 -- the promise: answer, head and every place of the left's lists are as t says
 pub record Joins (t : JoinOutcome) (r : Joining) (marks elapsed sizes : List ℕ) : Type 0 where
