@@ -1,5 +1,6 @@
 pub mod AcceptedAgain
 pub mod EachFixed
+pub mod ExportedFixed
 pub mod HeardJoinedReported
 pub mod NoneOfThem
 pub mod NumbersAndMemory

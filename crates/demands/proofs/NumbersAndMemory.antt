@@ -3,7 +3,7 @@ use lib.ListN.{length}
 use Rattle.demands.specs.Demand1.{Demand1}
 use Rattle.demands.proofs.Refusals.{read-carries, lists-carry, writes, data-carries, closing-carries, lengths-carry, moment-carries, due-carries}
 use Rattle.demands.proofs.SenderRefusals.{turns-carry, open-carries, renew-carries, sends-carry, data-stays, close-stays, close-with-stays}
-use Rattle.demands.proofs.RecordRefusals.{takes-leaves, fresh-leaves, hear-leaves, joins-leaves, join-leaves, reports-carry}
+use Rattle.demands.proofs.RecordRefusals.{takes-leaves, fresh-leaves, hear-leaves, many-carry, joins-leaves, join-leaves, reports-carry}
 
 pub demand-1 : Demand1
 demand-1 =
@@ -23,6 +23,7 @@ demand-1 =
       fresh-record = λ bearer period stamp marks elapsed sizes r m e s w.
           takes-leaves _ _ _ r m e s (fresh-leaves bearer period stamp marks elapsed sizes) w;
       hearing = λ k bearer period f r m e s w. takes-leaves _ _ _ r m e s (hear-leaves k bearer period f) w;
+      hearing-many = many-carry;
       joining = λ a b r m e s w. joins-leaves a _ r m e s (join-leaves a b) w;
       reporting = reports-carry;
     }

@@ -17,12 +17,16 @@ use Rattle.frame.specs.Reading.{readFrame}
 use Rattle.reception.specs.declared.Joining.{Joining}
 use Rattle.reception.specs.declared.Reported.{Reported}
 use Rattle.reception.specs.declared.Reported.the-variants.{Done, Refused}
+use Rattle.reception.specs.declared.Taken.{Taken}
+use Rattle.reception.specs.declared.Taken.the-variants.{Done as TakenDone, Refused as NotTaken}
 use Rattle.reception.specs.declared.Taking.{Taking}
 use Rattle.reception.specs.Adding.{packetContradicts, closingContradicts}
 use Rattle.reception.specs.Hearing.{Kept, Outcome, keptIn, heldBy, unused, unmatched, damagedKept, listsDiffer, otherKey, freshRecord, hearPacket, hearClosing, hearRead, hearFrame, takenPaper, Takes}
 use Rattle.reception.specs.Joining.{JoinPaper, JoinOutcome, capacitiesOff, otherRecord, lowest, ownClosingOff, joinRecords, joinedPaper, Joins}
 use Rattle.reception.specs.Reporting.{Gap, ReportPaper, gapsOf, gapsAfter, reportRecord, reportedPaper, roomOf, Reports}
-use Rattle.demands.specs.Demand1.{among, carries, ofFresh, ofJoining, ofReport, ofReading, ofHearing, Leaves}
+use Rattle.reception.specs.Several.{hearSequence, numbersAfter}
+use Rattle.several.specs.Rest.{HearsSequence}
+use Rattle.demands.specs.Demand1.{among, carries, ofFresh, ofHearingMany, ofJoining, ofReport, ofReading, ofHearing, Leaves}
 use Rattle.demands.proofs.Refusals.{accepted-of, no-zero, among-more, read-carries}
 
 -- fresh records, and hearing
@@ -73,6 +77,31 @@ pub hear-leaves : (k : Kept) (bearer period : ℕ) (f : List ℕ) → OutcomeLea
 unfolding hearFrame takenPaper among
 hear-leaves k bearer period f =
     whichever (OutcomeLeaves ofHearing k) _ _ (unmatched k) (refl, λ _. refl) (λ _. read-leaves k bearer period (readFrame f) (read-carries f))
+
+-- many frames at once
+many-leaves : (bearer period stamp : ℕ) (old : Kept) (frames : List (List ℕ)) (room : ℕ)
+    → OutcomeLeaves ofHearingMany old (hearSequence bearer period stamp old frames room)
+unfolding hearSequence takenPaper among
+many-leaves bearer period stamp old frames room =
+    whichever (OutcomeLeaves ofHearingMany old) _ _ (unmatched old) (refl, λ _. refl)
+    (λ _.
+    whichever (OutcomeLeaves ofHearingMany old) _ _ (ltb lastStamp stamp) (refl, λ _. refl)
+    (λ _. whichever (OutcomeLeaves ofHearingMany old) _ _ (ltb room (length frames)) (refl, λ _. refl) (λ _. (refl, no-zero))))
+
+none-numbered : (a : Taken) (ts : List Taken) (old : List ℕ) → takenPaper a .accepted ≡ 0 → numbersAfter a ts old ≡ old
+unfolding takenPaper
+none-numbered TakenDone ts old e = no-zero e
+none-numbered (NotTaken r) ts old e = refl
+
+pub many-carry : (bearer period stamp : ℕ) (old : Kept) (frames : List (List ℕ)) (ts : List Taken) (numbers : List ℕ) (r : Taking) (m e s new : List ℕ)
+    → HearsSequence (hearSequence bearer period stamp old frames (length numbers)) ts numbers r m e s new
+    → Leaves ofHearingMany old (takenPaper (r .answer) .number) (takenPaper (r .answer) .accepted) (keptIn (r .head) m e s)
+    × (takenPaper (r .answer) .accepted ≡ 0 → new ≡ numbers)
+many-carry bearer period stamp old frames ts numbers r m e s new w =
+    let t = hearSequence bearer period stamp old frames (length numbers) in (
+      takes-leaves ofHearingMany old t r m e s (many-leaves bearer period stamp old frames (length numbers)) (w .taken),
+      λ z. w .numbers ∙ none-numbered (t .answer) ts numbers (sym (ap accepted-of (w .taken .says)) ∙ z),
+    )
 
 -- joining
 abbrev pub JoinLeaves : Kept → JoinOutcome → Type 0

@@ -27,10 +27,13 @@ use Rattle.sender.specs.State.{closingBy}
 use Rattle.sender.specs.Calls.{turnedPaper, openCall, renewCall, dataCall, closeCall, closeWithCall, Turns, Sends}
 use Rattle.reception.specs.declared.Joining.{Joining}
 use Rattle.reception.specs.declared.Reported.{Reported}
+use Rattle.reception.specs.declared.Taken.{Taken}
 use Rattle.reception.specs.declared.Taking.{Taking}
 use Rattle.reception.specs.Hearing.{Kept, keptIn, unused, freshRecord, hearFrame, takenPaper, Takes}
 use Rattle.reception.specs.Joining.{joinRecords, joinedPaper, Joins}
 use Rattle.reception.specs.Reporting.{reportedPaper, Reports}
+use Rattle.reception.specs.Several.{hearSequence}
+use Rattle.several.specs.Rest.{HearsSequence}
 
 -- a number is one of these
 unfoldable pub among : List ℕ → ℕ → Bool
@@ -89,6 +92,9 @@ ofFresh = 14 ∷ 5 ∷ []
 abbrev pub ofHearing : List ℕ  -- "Hearing a frame: 14, reading's order, 13, 9, 10, 11"
 ofHearing = 14 ∷ (ofReading ++ (13 ∷ 9 ∷ 10 ∷ 11 ∷ []))
 
+abbrev pub ofHearingMany : List ℕ  -- many frames into a fresh record: as a fresh record, and then 12 (decision 31)
+ofHearingMany = 14 ∷ 5 ∷ 12 ∷ []
+
 abbrev pub ofJoining : List ℕ  -- "Joining: 14, 13, 9, 11"
 ofJoining = 14 ∷ 13 ∷ 9 ∷ 11 ∷ []
 
@@ -143,6 +149,10 @@ pub record Demand1 : Type 0 where
       → Leaves ofFresh (unused marks elapsed sizes) (takenPaper (r .answer) .number) (takenPaper (r .answer) .accepted) (keptIn (r .head) m e s)
   pub hearing : (k : Kept) (bearer period : ℕ) (f : List ℕ) (r : Taking) (m e s : List ℕ) → Takes (hearFrame k bearer period f) r m e s
       → Leaves ofHearing k (takenPaper (r .answer) .number) (takenPaper (r .answer) .accepted) (keptIn (r .head) m e s)
+  pub hearing-many : (bearer period stamp : ℕ) (old : Kept) (frames : List (List ℕ)) (ts : List Taken) (numbers : List ℕ) (r : Taking) (m e s new : List ℕ)
+      → HearsSequence (hearSequence bearer period stamp old frames (length numbers)) ts numbers r m e s new
+      → Leaves ofHearingMany old (takenPaper (r .answer) .number) (takenPaper (r .answer) .accepted) (keptIn (r .head) m e s)
+      × (takenPaper (r .answer) .accepted ≡ 0 → new ≡ numbers)
   pub joining : (a b : Kept) (r : Joining) (m e s : List ℕ) → Joins (joinRecords a b) r m e s
       → Leaves ofJoining a (joinedPaper (r .answer) .number) (joinedPaper (r .answer) .accepted) (keptIn (r .head) m e s)
   pub reporting : (k : Kept) (firsts counts octets : List ℕ) (r : Reported) (f c o : List ℕ) → Reports k firsts counts octets r f c o

@@ -2,5 +2,6 @@ pub mod Demand1
 pub mod Demand2
 pub mod Demand3
 pub mod Examples
+pub mod Exported
 pub mod OneOutcome
 pub mod ShutOut

@@ -37,7 +37,7 @@ abbrev pub Fixes : {A : Type 0} → (A → Type 0) → Type 0
 Fixes {A} P = (x y : A) → P x → P y → x ≡ y
 
 -- a list of a record, after
-abbrev Lent : Type 0
+abbrev pub Lent : Type 0
 Lent = List ℕ
 
 -- for each function: its promise leaves one outcome
