@@ -37,6 +37,12 @@ pub fn from_u16(x: u16) -> u64
     x as u64
 }
 
+pub fn from_u8(x: u8) -> u64
+    ensures { λ r. ⌜ (r ≡ x) × (r < 256) ⌝ }
+{
+    x as u64
+}
+
 // Where packet i has a octets before it, packet k can have e.
 fn reaches(i: u64, a: u64, k: u64, e: u64) -> bool
     requires { ⌜ (i ≤ k) × (k < 4294967296) ⌝ }
@@ -80,13 +86,7 @@ fn place_wrong(m: u8, e: u32, l: u16) -> bool
     if m == 1 {
         return false;
     }
-    if m != 0 {
-        return true;
-    }
-    if e != 0 {
-        return true;
-    }
-    l != 0
+    from_u8(m) + from_u32(e) + from_u16(l) != 0
 }
 
 // Whether a place is wrong, or no sending explains the record.
