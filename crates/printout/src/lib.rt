@@ -1,8 +1,10 @@
 // The printed account, item by item: what one item prints and leaves.
+mod clearing;
+
+use clearing::clear_heard;
 use hearing::contradicting::Span;
 use hearing::following::empty_span;
 use hearing::following::hear_next;
-use hearing::taking::clear;
 use hearing::taking::open_head;
 use items::Item;
 use items::Key;
@@ -54,7 +56,7 @@ pub fn account_before(
     ensures { λ r. ⌜ Puts (accountBefore (betweenIn g (now (marks .entry)) (now (elapsed .entry)) (now (sizes .entry)))) (now (out .entry)) at r (now (out .exit)) ⌝ }
 {
     if g.begun {
-        return put_account(g.head, marks, elapsed, sizes, out, at);
+        return put_account(g.head, g.span.end, marks, elapsed, sizes, out, at);
     }
     at
 }
@@ -76,7 +78,7 @@ fn begin(
         r (now (marks .exit)) (now (elapsed .exit)) (now (sizes .exit)) (now (out .entry)) at (now (out .exit)) ⌝ }
 {
     let end = account_before(g, marks, elapsed, sizes, out, at);
-    clear(marks, elapsed, sizes);
+    clear_heard(g, marks, elapsed, sizes);
     Went {
         going: Going {
             begun: true,

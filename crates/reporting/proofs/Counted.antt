@@ -7,16 +7,17 @@ use mathlib.Core.List.{List, _++_}
 use native.Mathlib.Numerals.{add-one}
 use native.Mathlib.Omega.{arith}
 use lib.Dec.{eqb}
-use lib.ListN.{length, getD}
+use lib.ListN.{length, getD, List·getD-eq-default}
 use borrow.Author.Tests.{eq-eqb, ne-eqb}
 use Rattle.units.specs.Limits.{mostCapacity}
 use Rattle.fields.proofs.Tests.{either}
 use Rattle.reception.specs.Sendings.{Held, heldIn}
 use Rattle.reception.specs.Walk.{isHeard}
-use Rattle.reception.specs.Neighbours.{endTo, octetsTo}
+use Rattle.reception.specs.declared.Head.{Head}
+use Rattle.reception.specs.Neighbours.{NoneFrom, endTo, octetsTo}
 use Rattle.reception.specs.Reporting.{Gap, gapTo, gapsFrom, gapsOf, heardTo, heardOctetsTo, sentPackets, sentOctets}
 use Rattle.reception.proofs.NeighboursDecide.{end-heard, end-unheard}
-use Rattle.reception.proofs.GapsAreUnheard.{of-gaps, heard-one, heard-none}
+use Rattle.reception.proofs.GapsAreUnheard.{Clear, of-gaps, heard-one, heard-none}
 use Rattle.reception.proofs.GapOctets.{unchanged, octets-one, octets-none, clear-past}
 use Rattle.reception.proofs.ReportAccounts.{SentAs}
 use Rattle.reporting.specs.Counting.{gapBetween, gapsTo, Tallied}
@@ -118,7 +119,30 @@ module _ (marks elapsed sizes : List ℕ) (k heard octets end before gaps : ℕ)
         gaps-few = omega (arith, t .gaps-few);
       })
 
--- the loop is left after the last place
-pub tally-done : (marks elapsed sizes : List ℕ) (k heard octets end before gaps : ℕ) → length marks ≤ k → Tallied marks elapsed sizes k heard octets end before gaps
-    → Tallied marks elapsed sizes (length marks) heard octets end before gaps
-tally-done marks elapsed sizes k heard octets end before gaps le t = let e : k ≡ length marks = omega (arith, le, t .here) in rw e at t
+-- from the place last on nothing was heard, so nothing is counted there
+pub tally-done : (marks elapsed sizes : List ℕ) (last k heard octets end before gaps : ℕ) → NoneFrom marks last → last ≤ k
+    → Tallied marks elapsed sizes k heard octets end before gaps → Tallied marks elapsed sizes (length marks) heard octets end before gaps
+tally-done marks elapsed sizes last k heard octets end before gaps o le t =
+    record {
+      heard-is = λ h. t .heard-is h ∙ sym (unchanged (heldIn h marks elapsed sizes) (heardTo (heldIn h marks elapsed sizes)) (heard-none (heldIn h marks elapsed sizes)) k (length marks) (past h));
+      octets-are = λ h. t .octets-are h ∙ sym (unchanged (heldIn h marks elapsed sizes) (heardOctetsTo (heldIn h marks elapsed sizes)) (octets-none (heldIn h marks elapsed sizes)) k (length marks) (past h));
+      end-is = λ h. t .end-is h ∙ sym (unchanged (heldIn h marks elapsed sizes) (endTo (heldIn h marks elapsed sizes)) (λ n u. end-unheard (heldIn h marks elapsed sizes) n u .0) k (length marks) (past h));
+      before-is = λ h. t .before-is h ∙ sym (unchanged (heldIn h marks elapsed sizes) (octetsTo (heldIn h marks elapsed sizes)) (λ n u. end-unheard (heldIn h marks elapsed sizes) n u .1) k (length marks) (past h));
+      gaps-are = λ h. t .gaps-are h ∙ sym (unchanged (heldIn h marks elapsed sizes) (gapsTo (heldIn h marks elapsed sizes)) (gaps-none (heldIn h marks elapsed sizes)) k (length marks) (past h));
+      here = omega arith;
+      room = t .room;
+      heard-few = omega (arith, t .heard-few, t .here);
+      octets-few = omega (arith, t .octets-few, t .here);
+      gaps-few = omega (arith, t .gaps-few, t .here);
+    }
+  where
+    past : (h : Head) → Clear (heldIn h marks elapsed sizes) k (length marks)
+    past h = record { order = t .here; none = λ j from lt. ne-eqb _ _ (o .none j (omega (arith, le, from))) }
+
+-- nothing was heard behind the last place
+pub none-behind : (marks : List ℕ) → NoneFrom marks (length marks)
+none-behind marks =
+    record {
+      inside = omega arith;
+      none = λ j le one. let z : getD marks j 0 ≡ 0 = List·getD-eq-default marks 0 le in omega (arith, z, one);
+    }

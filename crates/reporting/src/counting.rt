@@ -1,10 +1,11 @@
-// What a report says of a record: one pass over its places.
+// What a report says of a record: one pass over the places in which packets were heard.
 ghost use mathlib.Core.Path.{_≡_};
 ghost use mathlib.Core.Bool.{false, cond};
 ghost use Prim.Native.Nat.{_≤_};
 ghost use lib.ListN.{length};
 ghost use Rattle.reception.specs.Sendings.{heldIn};
 ghost use Rattle.reception.specs.Damage.{Matched};
+ghost use Rattle.reception.specs.Neighbours.{NoneFrom};
 ghost use Rattle.reception.specs.Hearing.{keptIn, damagedKept};
 ghost use Rattle.reception.specs.Reporting.{reportOf};
 ghost use Rattle.reporting.specs.Counting.{gapBetween, Tallied};
@@ -34,9 +35,10 @@ fn gap_between(i: u32, k: u32) -> u32
     1
 }
 
-// Counts over all places.
-fn tally(marks: &[u8], elapsed: &[u32], sizes: &[u16]) -> Totals
+// Counts over all places; from the place last on nothing was heard.
+fn tally(last: usize, marks: &[u8], elapsed: &[u32], sizes: &[u16]) -> Totals
     requires { ⌜ Matched (now marks) (now elapsed) (now sizes) ⌝ }
+    requires { ⌜ NoneFrom (now marks) last ⌝ }
     ensures { λ r. ⌜ Tallied (now (marks .entry)) (now (elapsed .entry)) (now (sizes .entry)) (length (now (marks .entry)))
         (r .heard .0) (r .octets .0) (r .end .0) (r .before .0) (r .gaps) ⌝ }
 {
@@ -46,7 +48,7 @@ fn tally(marks: &[u8], elapsed: &[u32], sizes: &[u16]) -> Totals
     let mut before: u64 = 0;
     let mut gaps: u32 = 0;
     let mut k: usize = 0;
-    while k < marks.len() {
+    while k < last {
         if marks[k] == 1 {
             let e = from_u32(elapsed[k]);
             let l = from_u16(sizes[k]);
@@ -87,13 +89,14 @@ pub fn sent_octets(h: Head, before: Octets) -> Octets
     before
 }
 
-// The report on an undamaged record.
-pub fn count(h: Head, marks: &[u8], elapsed: &[u32], sizes: &[u16]) -> Report
+// The report on an undamaged record in which nothing was heard from the place last on.
+pub fn count(h: Head, last: usize, marks: &[u8], elapsed: &[u32], sizes: &[u16]) -> Report
     requires { ⌜ Matched (now marks) (now elapsed) (now sizes) ⌝ }
+    requires { ⌜ NoneFrom (now marks) last ⌝ }
     requires { ⌜ damagedKept (keptIn h (now marks) (now elapsed) (now sizes)) ≡ false ⌝ }
     ensures { λ r. ⌜ r ≡ reportOf (heldIn h (now (marks .entry)) (now (elapsed .entry)) (now (sizes .entry))) ⌝ }
 {
-    let t = tally(marks, elapsed, sizes);
+    let t = tally(last, marks, elapsed, sizes);
     let heard = t.heard;
     let octets = t.octets;
     let end = t.end;

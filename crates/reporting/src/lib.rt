@@ -56,7 +56,7 @@ pub fn report(
     if damage::is_damaged(h, marks, elapsed, sizes) {
         return refused(RECORD_DAMAGED);
     }
-    let r = count(h, marks, elapsed, sizes);
+    let r = count(h, marks.len(), marks, elapsed, sizes);
     if least(firsts.len(), least(counts.len(), octets.len())) < r.gaps as usize {
         return refused(NO_ROOM);
     }

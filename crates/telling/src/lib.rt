@@ -19,12 +19,15 @@ ghost use Prim.Native.Nat.{_+_, _*_, _≤_};
 ghost use lib.ListN.{length};
 ghost use Rattle.lines.specs.Text.{Puts};
 ghost use Rattle.reception.specs.Damage.{Matched};
+ghost use Rattle.reception.specs.Neighbours.{NoneFrom};
 ghost use Rattle.reception.specs.Hearing.{keptIn, damagedKept};
 ghost use Rattle.telling.specs.Account.{accountText, refusedLine, badLine};
 
-// The account of an undamaged record: its sequence, its figures, its gaps, and the end.
+// The account of an undamaged record in which nothing was heard from the place last on: its sequence, its figures, its gaps, and the
+// end.
 pub fn put_account(
     h: Head,
+    last: usize,
     marks: &[u8],
     elapsed: &[u32],
     sizes: &[u16],
@@ -32,12 +35,13 @@ pub fn put_account(
     at: usize,
 ) -> usize
     requires { ⌜ Matched (now marks) (now elapsed) (now sizes) ⌝ }
+    requires { ⌜ NoneFrom (now marks) last ⌝ }
     requires { ⌜ damagedKept (keptIn h (now marks) (now elapsed) (now sizes)) ≡ false ⌝ }
     requires { ⌜ at + 512 + 67 * (length (now marks) + 1) ≤ length (now out) ⌝ }
     ensures { λ r. ⌜ Puts (accountText (keptIn h (now (marks .entry)) (now (elapsed .entry)) (now (sizes .entry)))) (now (out .entry)) at r (now (out .exit)) ⌝ }
     ensures { λ r. ⌜ r ≤ at + 512 + 67 * (length (now (marks .entry)) + 1) ⌝ }
 {
-    let r = count(h, marks, elapsed, sizes);
+    let r = count(h, last, marks, elapsed, sizes);
     let n = r.sent.0 as usize;
     let x = put_sequence(h, out, at);
     let y = put_figures(r, out, x);

@@ -9,7 +9,7 @@ put-account-requires : tie.Need-put-account-requires
 put-account-requires c κs =
     let s = c .before .before .before .before .before .before in
     let y = s .pre .0 in
-    (ready-lists _ _ _ _ y, (y .undamaged, omega (arith, y .marks-long, s .pre .1)))
+    (ready-lists _ _ _ _ y, (y .from-end, (y .undamaged, omega (arith, y .marks-long, s .pre .1))))
 
 same-length : tie.Need-same-length
 same-length c = search needs

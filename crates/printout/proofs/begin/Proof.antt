@@ -3,7 +3,7 @@ use mathlib.Core.Path.{ap}
 use denote.Ref.{now}
 use Rattle.printout.specs.Stepping.{betweenIn}
 use Rattle.hearing.specs.declared.contradicting.Span.{Span}
-use Rattle.printout.proofs.Stepped.{ready-lists, keyed}
+use Rattle.printout.proofs.Stepped.{keyed}
 use borrow.Author.Needs.{needs}
 use Rattle.printout.proofs.begin.Statement.{statement}
 use Rattle.printout.proofs.begin.Tie as tie
@@ -11,8 +11,8 @@ use Rattle.printout.proofs.begin.Tie as tie
 account-before-requires : tie.Need-account-before-requires
 account-before-requires c κs = let p = c .before .before .before .before .before .before .before .before .pre in (p .0, p .1 .1)
 
-clear-requires : tie.Need-clear-requires
-clear-requires c κs = ready-lists _ _ _ _ (c .before .before .before .before .before .before .before .before .before .before .before .before .before .before .pre .0)
+clear-heard-requires : tie.Need-clear-heard-requires
+clear-heard-requires c κs = c .before .before .before .before .before .before .before .before .before .before .before .before .before .before .pre .0
 
 open-head-requires : tie.Need-open-head-requires
 open-head-requires c κs = search needs
@@ -44,10 +44,9 @@ returns c =
     let l = o .before .before .before .before .before .before .before in
     let t = l .before .before .before .before .before .before in
     let s = t .before .before .before .before .before .before .before .before .before in
-    let y = s .pre .0 in
-    let z = l .clear .ensures in
+    let z = l .clear-heard .ensures in
     let a = s .args in
-    keyed (betweenIn (a .g) (now (a .marks)) (now (a .elapsed)) (now (a .sizes))) _ (s .pre .1 .0) _ _ _ _ _ _ _ _ _ _ _ (t .account-before .ensures) (o .open-head .ensures) (rw (y .marks-long) at (z .0)) (rw (y .marks-long) at (z .1)) (rw (y .marks-long) at (z .2))
+    keyed (betweenIn (a .g) (now (a .marks)) (now (a .elapsed)) (now (a .sizes))) _ (s .pre .1 .0) _ _ _ _ _ _ _ _ _ _ _ (t .account-before .ensures) (o .open-head .ensures) (z .0) (z .1) (z .2)
     (ap (λ (x : Span). x .end) (c .before .before .empty-span .ensures)) (c .before .wrapping-add-u64 .ensures) (c .wrapping-add-u642 .ensures)
 
 pub begin-spec : {M : Type 1} → statement M
@@ -55,7 +54,7 @@ begin-spec =
     tie.close
     (tie.spec
     account-before-requires
-    clear-requires
+    clear-heard-requires
     open-head-requires
     empty-span-requires
     wrapping-add-u64-requires

@@ -5,6 +5,7 @@ use Rattle.reception.specs.declared.Report.{Report}
 use Rattle.reception.specs.declared.Reported.the-variants.{Done}
 use Rattle.reception.proofs.KeptAsHeld.{lists-matched}
 use Rattle.reception.proofs.ReportSaid.{report-unmatched, report-damaged, report-no-room, report-done}
+use Rattle.reporting.proofs.Counted.{none-behind}
 use Rattle.reporting.proofs.Answered.{refused-as, done-as, too-many, few-enough, room-for}
 use borrow.Author.Needs.{needs}
 use Rattle.reporting.proofs.report.Statement.{statement}
@@ -36,7 +37,7 @@ returns-2 c =
 count-requires : tie.Need-count-requires
 count-requires c κs =
     let e = c .before .before in
-    (lists-matched _ _ _ (sym (e .before .lists-differ .ensures) ∙ e .if1 .left), sym (c .before .is-damaged .ensures) ∙ c .if2 .left)
+    (lists-matched _ _ _ (sym (e .before .lists-differ .ensures) ∙ e .if1 .left), (none-behind _, sym (c .before .is-damaged .ensures) ∙ c .if2 .left))
 
 least-requires : tie.Need-least-requires
 least-requires c κs = search needs

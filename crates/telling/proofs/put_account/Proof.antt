@@ -25,8 +25,8 @@ put-gaps-requires c κs =
     let s = r .before .before .before .before .before in
     let p = s .pre in
     let n = sent-is _ _ (r .count .ensures) in
-    let f = sent-fits (s .args .h) _ _ _ (p .0) (p .1 .0) in
-    (p .0, (p .1 .0, (n, omega (arith, n, f, y .put-figures .ensures .1, x .put-sequence .ensures .1))))
+    let f = sent-fits (s .args .h) _ _ _ (p .0) (p .1 .1 .0) in
+    (p .0, (p .1 .1 .0, (n, omega (arith, n, f, y .put-figures .ensures .1, x .put-sequence .ensures .1))))
 
 put-close-requires : tie.Need-put-close-requires
 put-close-requires c κs =
@@ -37,7 +37,7 @@ put-close-requires c κs =
     let s = r .before .before .before .before .before in
     let p = s .pre in
     let n = sent-is _ _ (r .count .ensures) in
-    let f = sent-fits (s .args .h) _ _ _ (p .0) (p .1 .0) in
+    let f = sent-fits (s .args .h) _ _ _ (p .0) (p .1 .1 .0) in
     omega (arith, n, f, z .put-gaps .ensures .1, y .put-figures .ensures .1, x .put-sequence .ensures .1)
 
 same-length : tie.Need-same-length
@@ -53,7 +53,7 @@ returns c =
     let s = r .before .before .before .before .before in
     let p = s .pre in
     let n = sent-is _ _ (r .count .ensures) in
-    let f = sent-fits (s .args .h) _ _ _ (p .0) (p .1 .0) in (
+    let f = sent-fits (s .args .h) _ _ _ (p .0) (p .1 .1 .0) in (
       puts-account (s .args .h) _ _ _ _ (omega arith) (r .count .ensures) (x .put-sequence .ensures .0) (y .put-figures .ensures .0) (z .put-gaps .ensures .0) (w .put-close .ensures .0),
       omega (arith, n, f, w .put-close .ensures .1, z .put-gaps .ensures .1, y .put-figures .ensures .1, x .put-sequence .ensures .1),
     )

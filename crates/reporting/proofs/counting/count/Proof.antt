@@ -13,27 +13,27 @@ sent-packets-requires c κs = search needs
 sent-octets-requires : tie.Need-sent-octets-requires
 sent-octets-requires c κs = search needs
 
-sub-t12 : tie.Need-sub-t12
-sub-t12 c =
+sub-t13 : tie.Need-sub-t13
+sub-t13 c =
     let o = c .before .before in
     let t = o .before .before .before .before .before .before in
     let s = t .before .before .before .before in
-    let u = sound (s .args .h) _ _ _ (s .pre .0) (s .pre .1) in
+    let u = sound (s .args .h) _ _ _ (s .pre .0) (s .pre .1 .1) in
     heard-sent (s .args .h) _ _ _ u _ _ _ _ _ (t .tally .ensures) _ _ (o .before .sent-packets .ensures) (o .sent-octets .ensures)
 
-sub-t14 : tie.Need-sub-t14
-sub-t14 c =
+sub-t15 : tie.Need-sub-t15
+sub-t15 c =
     let o = c .before .before .before .before in
     let t = o .before .before .before .before .before .before in
     let s = t .before .before .before .before in
-    let u = sound (s .args .h) _ _ _ (s .pre .0) (s .pre .1) in
+    let u = sound (s .args .h) _ _ _ (s .pre .0) (s .pre .1 .1) in
     octets-sent (s .args .h) _ _ _ u _ _ _ _ _ (t .tally .ensures) _ _ (o .before .sent-packets .ensures) (o .sent-octets .ensures)
 
 gap-between-requires : tie.Need-gap-between-requires
 gap-between-requires c κs = search needs
 
-add-t17 : tie.Need-add-t17
-add-t17 c = search needs
+add-t18 : tie.Need-add-t18
+add-t18 c = search needs
 
 returns : tie.Need-returns
 returns c =
@@ -41,7 +41,7 @@ returns c =
     let o = g .before .before .before .before .before in
     let t = o .before .before .before .before .before .before in
     let s = t .before .before .before .before in
-    let u = sound (s .args .h) _ _ _ (s .pre .0) (s .pre .1) in
+    let u = sound (s .args .h) _ _ _ (s .pre .0) (s .pre .1 .1) in
     report-is (s .args .h) _ _ _ u _ _ _ _ _ (t .tally .ensures) _ _ (o .before .sent-packets .ensures) (o .sent-octets .ensures) _ (g .gap-between .ensures .0)
 
 pub count-spec : {M : Type 1} → statement M
@@ -51,8 +51,8 @@ count-spec =
     tally-requires
     sent-packets-requires
     sent-octets-requires
-    sub-t12
-    sub-t14
+    sub-t13
+    sub-t15
     gap-between-requires
-    add-t17
+    add-t18
     returns)

@@ -1,7 +1,9 @@
 -- `reporting::counting::tally` meets its contract. Assumes nothing.
-use Prim.Native.Nat.{_-_}
+use Prim.Native.Nat.{_-_, _<_}
 use mathlib.Core.Logic.{⊎-elim}
+use denote.Ref.{now}
 use lib.ListN.{length}
+use native.Mathlib.Omega.{arith}
 use Rattle.reporting.specs.Counting.{Tallied}
 use Rattle.reporting.proofs.Counted.{tally-start, tally-heard, tally-unheard, tally-done}
 use borrow.Author.Needs.{needs}
@@ -9,14 +11,14 @@ use Rattle.reporting.proofs.counting.tally.Statement.{statement}
 use Rattle.reporting.proofs.counting.tally.Tie as tie
 
 abbrev Inv-loop : tie.InvT-loop
-Inv-loop marks elapsed sizes heard₀ octets₀ end₀ before₀ gaps₀ k₀ heard octets end before gaps k =
+Inv-loop last marks elapsed sizes heard₀ octets₀ end₀ before₀ gaps₀ k₀ heard octets end before gaps k =
     Tallied marks elapsed sizes k heard octets end before gaps
 
 abbrev μ-loop : tie.MeasureT-loop
-μ-loop marks elapsed sizes heard₀ octets₀ end₀ before₀ gaps₀ k₀ heard octets end before gaps k = length marks - k
+μ-loop last marks elapsed sizes heard₀ octets₀ end₀ before₀ gaps₀ k₀ heard octets end before gaps k = last - k
 
 loop-holds : tie.Need-loop-holds Inv-loop μ-loop
-loop-holds c = tally-start _ _ _ (c .before .before .before .pre .room)
+loop-holds c = tally-start _ _ _ (c .before .before .before .pre .0 .room)
 
 shared-slice-read-if1 : tie.Need-shared-slice-read-if1 Inv-loop μ-loop
 shared-slice-read-if1 c = search needs
@@ -72,15 +74,17 @@ loop-less c = search needs
 loop-again : tie.Need-loop-again Inv-loop μ-loop
 loop-again c =
     let i = c .before .before in
+    let s = i .before .before .before .before .before in
+    let lt : i .before .loop .k < length (now (s .args .marks)) = omega (arith, i .loop-test .taken, s .pre .1 .inside) in
     ⊎-elim
     (λ w.
     rw (w .6, w .7, w .8, w .9, w .10)
-    (tally-heard _ _ _ _ _ _ _ _ _ (i .before .loop .inv) (i .loop-test .taken) (w .0 .taken) _ _ _ (w .2 .ensures .0) (w .4 .ensures) (w .5 .ensures)))
-    (λ w. rw (w .1, w .2, w .3, w .4, w .5) (tally-unheard _ _ _ _ _ _ _ _ _ (i .before .loop .inv) (i .loop-test .taken) (w .0 .left)))
+    (tally-heard _ _ _ _ _ _ _ _ _ (i .before .loop .inv) lt (w .0 .taken) _ _ _ (w .2 .ensures .0) (w .4 .ensures) (w .5 .ensures)))
+    (λ w. rw (w .1, w .2, w .3, w .4, w .5) (tally-unheard _ _ _ _ _ _ _ _ _ (i .before .loop .inv) lt (w .0 .left)))
     (c .if1 .came)
 
 returns : tie.Need-returns Inv-loop μ-loop
-returns c = tally-done _ _ _ _ _ _ _ _ _ (c .loop-test .left) (c .before .loop .inv)
+returns c = tally-done _ _ _ _ _ _ _ _ _ _ (c .before .before .before .before .before .pre .1) (c .loop-test .left) (c .before .loop .inv)
 
 pub tally-spec : {M : Type 1} → statement M
 tally-spec =
