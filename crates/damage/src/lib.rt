@@ -80,7 +80,7 @@ pub fn may_end(h: Head, i: u64, a: u64) -> bool
 }
 
 // A place with another mark than heard or unheard, or unheard and not zero.
-fn place_wrong(m: u8, e: u32, l: u16) -> bool
+pub fn place_wrong(m: u8, e: u32, l: u16) -> bool
     ensures { λ r. ⌜ r ≡ placeWrong m e l ⌝ }
 {
     if m == 1 {
@@ -117,7 +117,7 @@ fn walk_fails(h: Head, marks: &[u8], elapsed: &[u32], sizes: &[u16]) -> bool
 }
 
 // An N above capacity, or a closing that was not heard and is not zero.
-fn closing_off(h: Head, capacity: usize) -> bool
+pub fn closing_off(h: Head, capacity: usize) -> bool
     ensures { λ r. ⌜ r ≡ closingOff (h .closed) (h .count .0) (h .total .0) capacity ⌝ }
 {
     if capacity < h.count.0 as usize {

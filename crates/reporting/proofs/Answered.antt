@@ -1,12 +1,11 @@
 -- How each answer meets the promise of a report. Assumes nothing.
 use Prim.Native.Nat.{ℕ, _≤_, _<_, min}
-use mathlib.Core.Path.{_≡_, refl, ap}
+use mathlib.Core.Path.{_≡_, refl}
 use mathlib.Core.List.{List, map}
 use native.Mathlib.Omega.{arith}
 use lib.ListN.{length}
 use Rattle.units.specs.Refusals.{refusing}
 use Rattle.fields.specs.Runs.{front}
-use Rattle.reception.specs.declared.Report.{Report}
 use Rattle.reception.specs.declared.Reported.{Reported}
 use Rattle.reception.specs.declared.Reported.the-variants.{Done, Refused}
 use Rattle.reception.specs.Sendings.{Held}
@@ -31,16 +30,13 @@ module _ (k : Kept) (firsts counts octets : List ℕ) where
   done-as e q f c o = record { says = rw (e, q) refl; leaves-firsts = rw e f; leaves-counts = rw e c; leaves-octets = rw e o }
 
 -- the room, by the lengths of the lists as they are compared
-module _ (r : Held) (firsts counts octets : List ℕ) (x y : ℕ) (p : y ≡ min (length counts) (length octets)) (q : x ≡ min (length firsts) y) (t : Report)
-    (e : t ≡ reportOf r) where
-  gaps-are : t .gaps ≡ length (gapsOf r)
-  gaps-are = ap (λ (w : Report). w .gaps) e
-
-  pub too-many : x < t .gaps → roomOf firsts counts octets < length (gapsOf r)
+module _ (r : Held) (firsts counts octets : List ℕ) (x y : ℕ) (p : y ≡ min (length counts) (length octets)) (q : x ≡ min (length firsts) y) (g : ℕ)
+    (gaps-are : g ≡ length (gapsOf r)) where
+  pub too-many : x < g → roomOf firsts counts octets < length (gapsOf r)
   too-many h = omega (arith, p, q, gaps-are)
 
-  pub few-enough : t .gaps ≤ x → length (gapsOf r) ≤ roomOf firsts counts octets
+  pub few-enough : g ≤ x → length (gapsOf r) ≤ roomOf firsts counts octets
   few-enough h = omega (arith, p, q, gaps-are)
 
-  pub room-for : t .gaps ≤ x → Room 0 (gapsOf r) firsts counts octets
+  pub room-for : g ≤ x → Room 0 (gapsOf r) firsts counts octets
   room-for h = record { firsts-fit = omega (arith, p, q, gaps-are); counts-fit = omega (arith, p, q, gaps-are); octets-fit = omega (arith, p, q, gaps-are) }

@@ -7,7 +7,7 @@ use mathlib.Core.List.{List, _++_}
 use native.Mathlib.Numerals.{add-one}
 use native.Mathlib.Omega.{arith}
 use lib.Dec.{eqb}
-use lib.ListN.{length, getD, List·getD-eq-default}
+use lib.ListN.{length, getD}
 use borrow.Author.Tests.{eq-eqb, ne-eqb}
 use Rattle.units.specs.Limits.{mostCapacity}
 use Rattle.fields.proofs.Tests.{either}
@@ -17,10 +17,10 @@ use Rattle.reception.specs.declared.Head.{Head}
 use Rattle.reception.specs.Neighbours.{NoneFrom, endTo, octetsTo}
 use Rattle.reception.specs.Reporting.{Gap, gapTo, gapsFrom, gapsOf, heardTo, heardOctetsTo, sentPackets, sentOctets}
 use Rattle.reception.proofs.NeighboursDecide.{end-heard, end-unheard}
-use Rattle.reception.proofs.GapsAreUnheard.{Clear, of-gaps, heard-one, heard-none}
+use Rattle.reception.proofs.GapsAreUnheard.{of-gaps, heard-one, heard-none}
 use Rattle.reception.proofs.GapOctets.{unchanged, octets-one, octets-none, clear-past}
 use Rattle.reception.proofs.ReportAccounts.{SentAs}
-use Rattle.reporting.specs.Counting.{gapBetween, gapsTo, Tallied}
+use Rattle.reporting.specs.Counting.{gapBetween, gapsTo, Ended, Tallied}
 
 -- the gaps, place by place
 gaps-one : (r : Held) (n : ℕ) → isHeard r n ≡ true → gapsTo r (suc n) ≡ gapsTo r n + gapBetween (endTo r n) n
@@ -64,85 +64,99 @@ gaps-counted r s x =
     in
     omega (arith, p, q, g, ap (gapsTo r) (x .packets))
 
--- nothing was counted yet
+-- before the first place nothing ends and nothing was counted
+pub ended-start : (marks elapsed sizes : List ℕ) → Ended marks elapsed sizes 0 0 0 0
+unfolding endTo octetsTo gapsTo
+ended-start marks elapsed sizes =
+    record { end-is = λ h. refl; before-is = λ h. refl; gaps-are = λ h. refl; gaps-few = omega arith }
+
 pub tally-start : (marks elapsed sizes : List ℕ) → length marks ≤ mostCapacity → Tallied marks elapsed sizes 0 0 0 0 0 0
-unfolding heardTo heardOctetsTo endTo octetsTo gapsTo
+unfolding heardTo heardOctetsTo
 tally-start marks elapsed sizes fits =
     record {
+      ended = ended-start marks elapsed sizes;
       heard-is = λ h. refl;
       octets-are = λ h. refl;
-      end-is = λ h. refl;
-      before-is = λ h. refl;
-      gaps-are = λ h. refl;
       here = omega arith;
       room = fits;
       heard-few = omega arith;
       octets-few = omega arith;
-      gaps-few = omega arith;
     }
 
-module _ (marks elapsed sizes : List ℕ) (k heard octets end before gaps : ℕ) (t : Tallied marks elapsed sizes k heard octets end before gaps) (lt : k < length marks) where
+module _ (marks elapsed sizes : List ℕ) (k end before gaps : ℕ) (t : Ended marks elapsed sizes k end before gaps) where
   -- packet k was heard
-  pub tally-heard : getD marks k 0 ≡ 1 → (e l b : ℕ) → e ≡ getD elapsed k 0 → (l ≡ getD sizes k 0) × (l < 65536) → (b ≡ gapBetween end k) × (b ≤ 1)
-      → Tallied marks elapsed sizes (k + 1) (heard + 1) (octets + l) (k + 1) (e + l) (gaps + b)
-  tally-heard m e l b el ll bl =
+  pub ended-heard : getD marks k 0 ≡ 1 → (e l b : ℕ) → e ≡ getD elapsed k 0 → l ≡ getD sizes k 0 → (b ≡ gapBetween end k) × (b ≤ 1)
+      → Ended marks elapsed sizes (k + 1) (k + 1) (e + l) (gaps + b)
+  ended-heard m e l b el ll bl =
       rw (add-one k)
       (record {
-        heard-is = λ h. omega (arith, t .heard-is h, heard-one (heldIn h marks elapsed sizes) k (eq-eqb _ _ m));
-        octets-are = λ h. omega (arith, t .octets-are h, ll .0, octets-one (heldIn h marks elapsed sizes) k (eq-eqb _ _ m));
         end-is = λ h. sym (end-heard (heldIn h marks elapsed sizes) k (eq-eqb _ _ m) .0);
-        before-is = λ h. omega (arith, el, ll .0, end-heard (heldIn h marks elapsed sizes) k (eq-eqb _ _ m) .1);
+        before-is = λ h. omega (arith, el, ll, end-heard (heldIn h marks elapsed sizes) k (eq-eqb _ _ m) .1);
         gaps-are = λ h.
             let same : gapBetween end k ≡ gapBetween (endTo (heldIn h marks elapsed sizes) k) k = ap (λ (x : ℕ). gapBetween x k) (t .end-is h) in
             omega (arith, t .gaps-are h, bl .0, same, gaps-one (heldIn h marks elapsed sizes) k (eq-eqb _ _ m));
-        here = omega (arith, lt);
-        room = t .room;
-        heard-few = omega (arith, t .heard-few);
-        octets-few = omega (arith, t .octets-few, ll .1);
         gaps-few = omega (arith, t .gaps-few, bl .1);
       })
 
   -- or not
-  pub tally-unheard : (getD marks k 0 ≡ 1 → ⊥) → Tallied marks elapsed sizes (k + 1) heard octets end before gaps
-  tally-unheard m =
+  pub ended-unheard : (getD marks k 0 ≡ 1 → ⊥) → Ended marks elapsed sizes (k + 1) end before gaps
+  ended-unheard m =
       rw (add-one k)
       (record {
-        heard-is = λ h. t .heard-is h ∙ sym (heard-none (heldIn h marks elapsed sizes) k (ne-eqb _ _ m));
-        octets-are = λ h. t .octets-are h ∙ sym (octets-none (heldIn h marks elapsed sizes) k (ne-eqb _ _ m));
         end-is = λ h. t .end-is h ∙ sym (end-unheard (heldIn h marks elapsed sizes) k (ne-eqb _ _ m) .0);
         before-is = λ h. t .before-is h ∙ sym (end-unheard (heldIn h marks elapsed sizes) k (ne-eqb _ _ m) .1);
         gaps-are = λ h. t .gaps-are h ∙ sym (gaps-none (heldIn h marks elapsed sizes) k (ne-eqb _ _ m));
+        gaps-few = omega (arith, t .gaps-few);
+      })
+
+module _ (marks elapsed sizes : List ℕ) (k heard octets end before gaps : ℕ) (t : Tallied marks elapsed sizes k heard octets end before gaps) (lt : k < length marks) where
+  pub tally-heard : getD marks k 0 ≡ 1 → (e l b : ℕ) → e ≡ getD elapsed k 0 → (l ≡ getD sizes k 0) × (l < 65536) → (b ≡ gapBetween end k) × (b ≤ 1)
+      → Tallied marks elapsed sizes (k + 1) (heard + 1) (octets + l) (k + 1) (e + l) (gaps + b)
+  tally-heard m e l b el ll bl =
+      record {
+        ended = ended-heard marks elapsed sizes k end before gaps (t .ended) m e l b el (ll .0) bl;
+        heard-is = λ h. rw (add-one k) (omega (arith, t .heard-is h, heard-one (heldIn h marks elapsed sizes) k (eq-eqb _ _ m)));
+        octets-are = λ h. rw (add-one k) (omega (arith, t .octets-are h, ll .0, octets-one (heldIn h marks elapsed sizes) k (eq-eqb _ _ m)));
+        here = omega (arith, lt);
+        room = t .room;
+        heard-few = omega (arith, t .heard-few);
+        octets-few = omega (arith, t .octets-few, ll .1);
+      }
+
+  pub tally-unheard : (getD marks k 0 ≡ 1 → ⊥) → Tallied marks elapsed sizes (k + 1) heard octets end before gaps
+  tally-unheard m =
+      record {
+        ended = ended-unheard marks elapsed sizes k end before gaps (t .ended) m;
+        heard-is = λ h. rw (add-one k) (t .heard-is h ∙ sym (heard-none (heldIn h marks elapsed sizes) k (ne-eqb _ _ m)));
+        octets-are = λ h. rw (add-one k) (t .octets-are h ∙ sym (octets-none (heldIn h marks elapsed sizes) k (ne-eqb _ _ m)));
         here = omega (arith, lt);
         room = t .room;
         heard-few = omega (arith, t .heard-few);
         octets-few = omega (arith, t .octets-few);
-        gaps-few = omega (arith, t .gaps-few);
-      })
+      }
 
 -- from the place last on nothing was heard, so nothing is counted there
-pub tally-done : (marks elapsed sizes : List ℕ) (last k heard octets end before gaps : ℕ) → NoneFrom marks last → last ≤ k
-    → Tallied marks elapsed sizes k heard octets end before gaps → Tallied marks elapsed sizes (length marks) heard octets end before gaps
-tally-done marks elapsed sizes last k heard octets end before gaps o le t =
-    record {
-      heard-is = λ h. t .heard-is h ∙ sym (unchanged (heldIn h marks elapsed sizes) (heardTo (heldIn h marks elapsed sizes)) (heard-none (heldIn h marks elapsed sizes)) k (length marks) (past h));
-      octets-are = λ h. t .octets-are h ∙ sym (unchanged (heldIn h marks elapsed sizes) (heardOctetsTo (heldIn h marks elapsed sizes)) (octets-none (heldIn h marks elapsed sizes)) k (length marks) (past h));
-      end-is = λ h. t .end-is h ∙ sym (unchanged (heldIn h marks elapsed sizes) (endTo (heldIn h marks elapsed sizes)) (λ n u. end-unheard (heldIn h marks elapsed sizes) n u .0) k (length marks) (past h));
-      before-is = λ h. t .before-is h ∙ sym (unchanged (heldIn h marks elapsed sizes) (octetsTo (heldIn h marks elapsed sizes)) (λ n u. end-unheard (heldIn h marks elapsed sizes) n u .1) k (length marks) (past h));
-      gaps-are = λ h. t .gaps-are h ∙ sym (unchanged (heldIn h marks elapsed sizes) (gapsTo (heldIn h marks elapsed sizes)) (gaps-none (heldIn h marks elapsed sizes)) k (length marks) (past h));
-      here = omega arith;
-      room = t .room;
-      heard-few = omega (arith, t .heard-few, t .here);
-      octets-few = omega (arith, t .octets-few, t .here);
-      gaps-few = omega (arith, t .gaps-few, t .here);
-    }
-  where
-    past : (h : Head) → Clear (heldIn h marks elapsed sizes) k (length marks)
-    past h = record { order = t .here; none = λ j from lt. ne-eqb _ _ (o .none j (omega (arith, le, from))) }
+module _ (marks elapsed sizes : List ℕ) (last k heard octets end before gaps : ℕ) (o : NoneFrom marks last) (le : last ≤ k)
+    (t : Tallied marks elapsed sizes k heard octets end before gaps) where
+  -- what does not change at an unheard number
+  past : (h : Head) (f : ℕ → ℕ) → ((n : ℕ) → isHeard (heldIn h marks elapsed sizes) n ≡ false → f (suc n) ≡ f n) → f k ≡ f (length marks)
+  past h f stays =
+      sym (unchanged (heldIn h marks elapsed sizes) f stays k (length marks) (record { order = t .here; none = λ j from lt. ne-eqb _ _ (o .none j (omega (arith, le, from))) }))
 
--- nothing was heard behind the last place
-pub none-behind : (marks : List ℕ) → NoneFrom marks (length marks)
-none-behind marks =
-    record {
-      inside = omega arith;
-      none = λ j le one. let z : getD marks j 0 ≡ 0 = List·getD-eq-default marks 0 le in omega (arith, z, one);
-    }
+  pub tally-done : Tallied marks elapsed sizes (length marks) heard octets end before gaps
+  tally-done =
+      record {
+        ended =
+            record {
+              end-is = λ h. t .ended .end-is h ∙ past h (endTo (heldIn h marks elapsed sizes)) (λ n u. end-unheard (heldIn h marks elapsed sizes) n u .0);
+              before-is = λ h. t .ended .before-is h ∙ past h (octetsTo (heldIn h marks elapsed sizes)) (λ n u. end-unheard (heldIn h marks elapsed sizes) n u .1);
+              gaps-are = λ h. t .ended .gaps-are h ∙ past h (gapsTo (heldIn h marks elapsed sizes)) (gaps-none (heldIn h marks elapsed sizes));
+              gaps-few = omega (arith, t .ended .gaps-few, t .here);
+            };
+        heard-is = λ h. t .heard-is h ∙ past h (heardTo (heldIn h marks elapsed sizes)) (heard-none (heldIn h marks elapsed sizes));
+        octets-are = λ h. t .octets-are h ∙ past h (heardOctetsTo (heldIn h marks elapsed sizes)) (octets-none (heldIn h marks elapsed sizes));
+        here = omega arith;
+        room = t .room;
+        heard-few = omega (arith, t .heard-few, t .here);
+        octets-few = omega (arith, t .octets-few, t .here);
+      }

@@ -10,39 +10,49 @@ use borrow.Author.Tests.{eq-eqb, ne-eqb}
 use Rattle.fields.specs.Runs.{laid, front}
 use Rattle.fields.proofs.Laying.{laid-none, laid-first, laid-split}
 use Rattle.reception.specs.Reporting.{Gap, gapTo}
+use Rattle.reception.specs.Missing.{packetsIn, octetsIn}
+use Rattle.reporting.specs.declared.writing.Written.{Written}
 use Rattle.reporting.specs.Writing.{Room, Puts}
 
 laid-one : (s : List ℕ) (w x : ℕ) → w < length s → set s w x ≡ laid s w (x ∷ [])
 unfolding laid
 laid-one s w x lt = rw (add-one w, append-snoc (take w s) x (drop (suc w) s)) (set-split s w x lt)
 
-module _ (w i a k e : ℕ) (firsts counts octets : List ℕ) where
+module _ (w : Written) (i a k e : ℕ) (firsts counts octets : List ℕ) where
   -- there is none
   pub put-none : i ≡ k → Puts w (gapTo i a k e) firsts counts octets w firsts counts octets
+  unfolding packetsIn octetsIn
   put-none same =
       rw (eq-eqb i k same)
       (record {
         next = omega arith;
-        firsts-are = sym (laid-none firsts w);
-        counts-are = sym (laid-none counts w);
-        octets-are = sym (laid-none octets w);
+        packets = omega arith;
+        octets-in = omega arith;
+        firsts-are = sym (laid-none firsts (w .next));
+        counts-are = sym (laid-none counts (w .next));
+        octets-are = sym (laid-none octets (w .next));
       })
 
   -- there is one, and room for it
-  module _ (off : i ≡ k → ⊥) (room : Room w (gapTo i a k e) firsts counts octets) where
-    pub room-one : (w < length firsts) × (w < length counts) × (w < length octets)
+  module _ (off : i ≡ k → ⊥) (room : Room (w .next) (gapTo i a k e) firsts counts octets) where
+    pub room-one : (w .next < length firsts) × (w .next < length counts) × (w .next < length octets)
     room-one =
-        let x : Room w (record { first = i; count = k - i; octets = e - a } ∷ []) firsts counts octets = rw (ne-eqb i k off) at room in
+        let x : Room (w .next) (record { first = i; count = k - i; octets = e - a } ∷ []) firsts counts octets = rw (ne-eqb i k off) at room in
         (omega (arith, x .firsts-fit), omega (arith, x .counts-fit), omega (arith, x .octets-fit))
 
-    pub put-one : Puts w (gapTo i a k e) firsts counts octets (w + 1) (set firsts w i) (set counts w (k - i)) (set octets w (e - a))
+    pub put-one : Puts w (gapTo i a k e) firsts counts octets
+        (record { next = w .next + 1; packets = record { 0 = w .packets .0 + (k - i) }; octets = record { 0 = w .octets .0 + (e - a) } })
+        (set firsts (w .next) i) (set counts (w .next) (k - i)) (set octets (w .next) (e - a))
+    unfolding packetsIn octetsIn
     put-one =
         rw (ne-eqb i k off)
         (record {
           next = refl;
-          firsts-are = laid-one firsts w i (room-one .0);
-          counts-are = laid-one counts w (k - i) (room-one .1);
-          octets-are = laid-one octets w (e - a) (room-one .2);
+          packets = omega arith;
+          octets-in = omega arith;
+          firsts-are = laid-one firsts (w .next) i (room-one .0);
+          counts-are = laid-one counts (w .next) (k - i) (room-one .1);
+          octets-are = laid-one octets (w .next) (e - a) (room-one .2);
         })
 
 -- one of a gap's numbers in its lent list: what is laid already, with that of the gaps gs to come, is that of all gaps in front

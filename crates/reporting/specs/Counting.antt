@@ -23,15 +23,19 @@ unfoldable pub gapsTo : Held → ℕ → ℕ
 gapsTo r zero = 0
 gapsTo r (suc n) = gapsTo r n + cond (isHeard r n) (gapBetween (endTo r n) n) 0
 
--- what was counted over the first k places, in a record of these lists and whatever head
-pub record Tallied (marks elapsed sizes : List ℕ) (k heard octets end before gaps : ℕ) : Type 0 where
-  pub heard-is : (h : Head) → heard ≡ heardTo (heldIn h marks elapsed sizes) k
-  pub octets-are : (h : Head) → octets ≡ heardOctetsTo (heldIn h marks elapsed sizes) k
+-- where the packets heard among the first k places end, and the gaps before them, in a record of these lists and whatever head
+pub record Ended (marks elapsed sizes : List ℕ) (k end before gaps : ℕ) : Type 0 where
   pub end-is : (h : Head) → end ≡ endTo (heldIn h marks elapsed sizes) k
   pub before-is : (h : Head) → before ≡ octetsTo (heldIn h marks elapsed sizes) k
   pub gaps-are : (h : Head) → gaps ≡ gapsTo (heldIn h marks elapsed sizes) k
+  pub gaps-few : gaps ≤ k
+
+-- and what was counted over these places
+pub record Tallied (marks elapsed sizes : List ℕ) (k heard octets end before gaps : ℕ) : Type 0 where
+  pub ended : Ended marks elapsed sizes k end before gaps
+  pub heard-is : (h : Head) → heard ≡ heardTo (heldIn h marks elapsed sizes) k
+  pub octets-are : (h : Head) → octets ≡ heardOctetsTo (heldIn h marks elapsed sizes) k
   pub here : k ≤ length marks
   pub room : length marks ≤ mostCapacity
   pub heard-few : heard ≤ k
   pub octets-few : octets ≤ 65535 * k
-  pub gaps-few : gaps ≤ k

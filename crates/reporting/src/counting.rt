@@ -26,7 +26,7 @@ pub struct Totals {
 }
 
 // How many gaps are between packets that end before number i and packet k.
-fn gap_between(i: u32, k: u32) -> u32
+pub fn gap_between(i: u32, k: u32) -> u32
     ensures { λ r. ⌜ (r ≡ gapBetween i k) × (r ≤ 1) ⌝ }
 {
     if i == k {
@@ -70,7 +70,7 @@ fn tally(last: usize, marks: &[u8], elapsed: &[u32], sizes: &[u16]) -> Totals
 }
 
 // The packets sent: the closing's, or up to the last one heard.
-fn sent_packets(h: Head, end: Packets) -> Packets
+pub fn sent_packets(h: Head, end: Packets) -> Packets
     ensures { λ r. ⌜ r ≡ record { 0 = cond (h .closed) (h .count .0) (end .0) } ⌝ }
 {
     if h.closed {

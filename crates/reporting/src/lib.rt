@@ -1,22 +1,31 @@
 // The report on a record: sent, heard and missing packets and octets, and the gaps.
 pub mod counting;
-mod writing;
+pub mod judging;
+pub mod writing;
 
-use counting::count;
+use counting::gap_between;
+use counting::sent_octets;
+use counting::sent_packets;
 use damage::lists_differ;
+use judging::judge;
 use reception::Head;
+use reception::Report;
 use reception::Reported;
+use units::Octets;
+use units::Packets;
 use units::Refusal;
 use units::refusals::CAPACITIES_DIFFER;
 use units::refusals::NO_ROOM;
 use units::refusals::RECORD_DAMAGED;
+use writing::Written;
 use writing::write_gaps;
 ghost use mathlib.Core.Path.{_≡_};
-ghost use Prim.Native.Nat.{min};
+ghost use Prim.Native.Nat.{_≤_, min};
 ghost use Rattle.units.specs.Refusals.{refusing};
 ghost use Rattle.reception.specs.declared.Reported.the-variants.{Refused};
 ghost use Rattle.reception.specs.Hearing.{keptIn};
 ghost use Rattle.reception.specs.Reporting.{Reports};
+ghost use Rattle.reporting.specs.Writing.{reportWith};
 
 // A refusal.
 fn refused(number: u8) -> Reported
@@ -33,6 +42,24 @@ fn least(a: usize, b: usize) -> usize
         return a;
     }
     b
+}
+
+// The report by what was sent and what of it is missing.
+fn made(sent: Packets, total: Octets, missing: Written, gaps: u32) -> Report
+    requires { ⌜ (missing .packets .0 ≤ sent .0) × (missing .octets .0 ≤ total .0) ⌝ }
+    ensures { λ r. ⌜ r ≡ reportWith sent total missing gaps ⌝ }
+{
+    let packets = missing.packets;
+    let octets = missing.octets;
+    Report {
+        sent: sent,
+        sent_octets: total,
+        heard: Packets(sent.0 - packets.0),
+        heard_octets: Octets(total.0 - octets.0),
+        missing: packets,
+        missing_octets: octets,
+        gaps: gaps,
+    }
 }
 
 // The report on a record, with its gaps in rising order in the three lent lists: first number, count and octets of each.
@@ -53,22 +80,19 @@ pub fn report(
     if lists_differ(marks.len(), elapsed.len(), sizes.len()) {
         return refused(CAPACITIES_DIFFER);
     }
-    if damage::is_damaged(h, marks, elapsed, sizes) {
+    let j = judge(h, marks, elapsed, sizes);
+    if j.damaged {
         return refused(RECORD_DAMAGED);
     }
-    let r = count(h, marks.len(), marks, elapsed, sizes);
-    if least(firsts.len(), least(counts.len(), octets.len())) < r.gaps as usize {
+    let end = j.end;
+    let before = j.before;
+    let sent = sent_packets(h, end);
+    let total = sent_octets(h, before);
+    let gaps = j.gaps + gap_between(end.0, sent.0);
+    if least(firsts.len(), least(counts.len(), octets.len())) < gaps as usize {
         return refused(NO_ROOM);
     }
-    write_gaps(
-        h,
-        r.sent.0 as usize,
-        marks,
-        elapsed,
-        sizes,
-        firsts,
-        counts,
-        octets,
-    );
-    Reported::Done(r)
+    let n = sent.0 as usize;
+    let missing = write_gaps(h, n, marks, elapsed, sizes, firsts, counts, octets);
+    Reported::Done(made(sent, total, missing, gaps))
 }

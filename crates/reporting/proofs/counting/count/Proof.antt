@@ -19,7 +19,8 @@ sub-t13 c =
     let t = o .before .before .before .before .before .before in
     let s = t .before .before .before .before in
     let u = sound (s .args .h) _ _ _ (s .pre .0) (s .pre .1 .1) in
-    heard-sent (s .args .h) _ _ _ u _ _ _ _ _ (t .tally .ensures) _ _ (o .before .sent-packets .ensures) (o .sent-octets .ensures)
+    let y = t .tally .ensures in
+    heard-sent (s .args .h) _ _ _ u _ _ _ (y .ended) _ _ (o .before .sent-packets .ensures) (o .sent-octets .ensures) _ _ (y .heard-is (s .args .h)) (y .octets-are (s .args .h))
 
 sub-t15 : tie.Need-sub-t15
 sub-t15 c =
@@ -27,7 +28,8 @@ sub-t15 c =
     let t = o .before .before .before .before .before .before in
     let s = t .before .before .before .before in
     let u = sound (s .args .h) _ _ _ (s .pre .0) (s .pre .1 .1) in
-    octets-sent (s .args .h) _ _ _ u _ _ _ _ _ (t .tally .ensures) _ _ (o .before .sent-packets .ensures) (o .sent-octets .ensures)
+    let y = t .tally .ensures in
+    octets-sent (s .args .h) _ _ _ u _ _ _ (y .ended) _ _ (o .before .sent-packets .ensures) (o .sent-octets .ensures) _ _ (y .heard-is (s .args .h)) (y .octets-are (s .args .h))
 
 gap-between-requires : tie.Need-gap-between-requires
 gap-between-requires c κs = search needs
@@ -42,7 +44,8 @@ returns c =
     let t = o .before .before .before .before .before .before in
     let s = t .before .before .before .before in
     let u = sound (s .args .h) _ _ _ (s .pre .0) (s .pre .1 .1) in
-    report-is (s .args .h) _ _ _ u _ _ _ _ _ (t .tally .ensures) _ _ (o .before .sent-packets .ensures) (o .sent-octets .ensures) _ (g .gap-between .ensures .0)
+    let y = t .tally .ensures in
+    report-is (s .args .h) _ _ _ u _ _ _ (y .ended) _ _ (o .before .sent-packets .ensures) (o .sent-octets .ensures) _ _ (y .heard-is (s .args .h)) (y .octets-are (s .args .h)) _ (g .gap-between .ensures .0)
 
 pub count-spec : {M : Type 1} → statement M
 count-spec =

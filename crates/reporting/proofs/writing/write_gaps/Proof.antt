@@ -6,17 +6,17 @@ use Rattle.reception.specs.Sendings.{heldIn}
 use Rattle.reception.proofs.ReportAccounts.{undamaged-sent}
 use Rattle.reporting.proofs.CountedReport.{sound}
 use Rattle.reporting.proofs.GapsLeft.{back, up, last-back, last-up}
-use Rattle.reporting.proofs.GapsWritten.{Writing, writing-start, room-here, heard-on, unheard-on, last-room, all-written}
+use Rattle.reporting.proofs.GapsWritten.{Writing, writing-start, room-here, heard-on, unheard-on, last-room, all-missing, all-written}
 use borrow.Author.Needs.{needs}
 use Rattle.reporting.proofs.writing.write_gaps.Statement.{statement}
 use Rattle.reporting.proofs.writing.write_gaps.Tie as tie
 
 abbrev Inv-loop : tie.InvT-loop
-Inv-loop h n marks elapsed sizes firsts₀ counts₀ octets₀ i₀ a₀ w₀ k₀ firsts counts octets i a w k =
-    Writing (heldIn h marks elapsed sizes) n firsts₀ counts₀ octets₀ firsts counts octets i a w k
+Inv-loop h n marks elapsed sizes firsts₀ counts₀ octets₀ i₀ a₀ t₀ k₀ firsts counts octets i a t k =
+    Writing (heldIn h marks elapsed sizes) n firsts₀ counts₀ octets₀ firsts counts octets i a t k
 
 abbrev μ-loop : tie.MeasureT-loop
-μ-loop h n marks elapsed sizes firsts₀ counts₀ octets₀ i₀ a₀ w₀ k₀ firsts counts octets i a w k = n - k
+μ-loop h n marks elapsed sizes firsts₀ counts₀ octets₀ i₀ a₀ t₀ k₀ firsts counts octets i a t k = n - k
 
 loop-holds : tie.Need-loop-holds Inv-loop μ-loop
 loop-holds c =
@@ -56,7 +56,10 @@ put-requires c κs =
     let i = t .before .before in
     let g = i .before .loop .inv in (
       (back _ _ _ _ _ (g .going), up _ _ _ _ _ (g .going) (i .loop-test .taken) (t .if1 .taken) _ _ (e .from-u32 .ensures .0) (l .from-u16 .ensures .0)),
-      room-here _ _ _ _ _ _ _ _ _ _ _ _ g (i .loop-test .taken) (t .if1 .taken) _ _ (e .from-u32 .ensures .0) (l .from-u16 .ensures .0),
+      (
+        (g .missing .packets-few, g .missing .octets-few),
+        room-here _ _ _ _ _ _ _ _ _ _ _ _ g (i .loop-test .taken) (t .if1 .taken) _ _ (e .from-u32 .ensures .0) (l .from-u16 .ensures .0),
+      ),
     )
 
 cast-i : tie.Need-cast-i Inv-loop μ-loop
@@ -80,7 +83,7 @@ loop-again c =
     ⊎-elim
     (λ w.
     rw (w .15, w .16, w .17, w .18, w .19, w .20)
-    (heard-on _ _ _ _ _ _ _ _ _ _ _ _ (i .before .loop .inv) (i .loop-test .taken) (w .0 .taken) _ _ (w .2 .ensures .0) (w .4 .ensures .0) _ _ _ _ (w .8 .ensures)))
+    (heard-on _ _ _ _ _ _ _ _ _ _ _ _ (i .before .loop .inv) (i .loop-test .taken) (w .0 .taken) _ _ (w .2 .ensures .0) (w .4 .ensures .0) _ _ _ _ (w .8 .ensures .0) (w .8 .ensures .1)))
     (λ w. rw (w .1, w .2, w .3, w .4, w .5, w .6) (unheard-on _ _ _ _ _ _ _ _ _ _ _ _ (i .before .loop .inv) (i .loop-test .taken) (w .0 .left)))
     (c .if1 .came)
 
@@ -96,7 +99,7 @@ put-requires-2 c κs =
     let g = o .before .before .loop .inv in
     let q = o .sent-octets .ensures in
     let le = o .before .loop-test .left in
-    ((last-back _ _ _ _ _ (g .going) le _ q, last-up _ _ _ _ _ (g .going) le _ q), last-room _ _ _ _ _ _ _ _ _ _ _ _ g le _ q)
+    ((last-back _ _ _ _ _ (g .going) le _ q, last-up _ _ _ _ _ (g .going) le _ q), ((g .missing .packets-few, g .missing .octets-few), last-room _ _ _ _ _ _ _ _ _ _ _ _ g le _ q))
 
 same-length : tie.Need-same-length Inv-loop μ-loop
 same-length c =
@@ -120,7 +123,10 @@ returns : tie.Need-returns Inv-loop μ-loop
 returns c =
     let p = c .before .before .before .before .before .before in
     let o = p .before .before .before .before in
-    all-written _ _ _ _ _ _ _ _ _ _ _ _ (o .before .before .loop .inv) (o .before .loop-test .left) _ (o .sent-octets .ensures) _ _ _ _ (p .put2 .ensures)
+    let g = o .before .before .loop .inv in
+    let le = o .before .loop-test .left in
+    let q = o .sent-octets .ensures in
+    (all-missing _ _ _ _ _ _ _ _ _ _ _ _ g le _ q _ _ _ _ (p .put2 .ensures .0), all-written _ _ _ _ _ _ _ _ _ _ _ _ g le _ q _ _ _ _ (p .put2 .ensures .0))
 
 pub write-gaps-spec : {M : Type 1} → statement M
 write-gaps-spec =

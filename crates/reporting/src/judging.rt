@@ -1,0 +1,88 @@
+// A record judged, and where its packets end and how many gaps lie before them, in one pass over its places.
+ghost use mathlib.Core.Path.{_≡_};
+ghost use mathlib.Core.Bool.{true};
+ghost use Rattle.reception.specs.Sendings.{heldIn};
+ghost use Rattle.reception.specs.Damage.{Matched, walkFails, damagedRecord};
+ghost use Rattle.reporting.specs.Judging.{Judges};
+use crate::counting::gap_between;
+use damage::closing_off;
+use damage::from_u16;
+use damage::from_u32;
+use damage::is_fit;
+use damage::may_end;
+use damage::place_wrong;
+use reception::Head;
+use units::Octets;
+use units::Packets;
+use units::limits::LAST_STAMP;
+
+// Whether a record is damaged. Where it is not: the number after the last packet heard, the octets before it, and the gaps before the
+// packets heard.
+pub struct Judged {
+    pub end: Packets,
+    pub before: Octets,
+    pub gaps: u32,
+    pub damaged: bool,
+}
+
+// A damaged record, of which nothing else is said.
+fn off() -> Judged
+    ensures { λ r. ⌜ r .damaged ≡ true ⌝ }
+{
+    Judged {
+        end: Packets(0),
+        before: Octets(0),
+        gaps: 0,
+        damaged: true,
+    }
+}
+
+// Goes over the places of a record.
+fn walk(h: Head, marks: &[u8], elapsed: &[u32], sizes: &[u16]) -> Judged
+    requires { ⌜ Matched (now marks) (now elapsed) (now sizes) ⌝ }
+    ensures { λ r. ⌜ Judges (walkFails (heldIn h (now (marks .entry)) (now (elapsed .entry)) (now (sizes .entry))))
+        (now (marks .entry)) (now (elapsed .entry)) (now (sizes .entry)) r ⌝ }
+{
+    let mut i: u64 = 0;
+    let mut a: u64 = 0;
+    let mut gaps: u32 = 0;
+    let mut k: usize = 0;
+    while k < marks.len() {
+        if marks[k] == 1 {
+            let e = from_u32(elapsed[k]);
+            let l = from_u16(sizes[k]);
+            if !is_fit(i, a, k as u64, e, l) {
+                return off();
+            }
+            gaps = gaps + gap_between(i as u32, k as u32);
+            i = k as u64 + 1;
+            a = e + l;
+        } else {
+            if place_wrong(marks[k], elapsed[k], sizes[k]) {
+                return off();
+            }
+        }
+        k += 1;
+    }
+    Judged {
+        end: Packets(i as u32),
+        before: Octets(a),
+        gaps: gaps,
+        damaged: !may_end(h, i, a),
+    }
+}
+
+// Judges a record.
+pub fn judge(h: Head, marks: &[u8], elapsed: &[u32], sizes: &[u16]) -> Judged
+    requires { ⌜ Matched (now marks) (now elapsed) (now sizes) ⌝ }
+    ensures { λ r. ⌜ Judges (damagedRecord (h .stamp) (heldIn h (now (marks .entry)) (now (elapsed .entry)) (now (sizes .entry))))
+        (now (marks .entry)) (now (elapsed .entry)) (now (sizes .entry)) r ⌝ }
+{
+    if LAST_STAMP < h.stamp as u64 {
+        return off();
+    }
+    if closing_off(h, marks.len()) {
+        return off();
+    }
+    walk(h, marks, elapsed, sizes)
+}
