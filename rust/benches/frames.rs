@@ -1,4 +1,4 @@
-//! Reading frames beside a plain Rust reader: same frames, same run, rounds taken in turn, the best round of each counts.
+//! Reading and writing frames beside plain Rust: same frames, same run, rounds taken in turn, the best round of each counts.
 #[path = "../peers/frames.rs"]
 mod frames;
 #[path = "../peers/checks.rs"]
@@ -7,39 +7,90 @@ mod peers;
 use frames::{Reader, told};
 use peers::Noise;
 use quimdoral::frames::read;
+use quimdoral::{Data, Octets, Packets};
 use std::hint::black_box;
 use std::time::Instant;
 
 const ROUNDS: usize = 60;
 
+/// A data PDU as a plain Rust program writes it: refusals first, then the fields, the payload and both checks, by tables.
+fn write_plainly(reader: &Reader, data: &Data, out: &mut [u8]) -> Result<usize, u8> {
+    let (number, elapsed, payload) = (data.number.0, data.elapsed.0, data.payload);
+    if data.stamp > 59_999 {
+        return Err(5);
+    }
+    if payload.len() > 4_095 {
+        return Err(20);
+    }
+    if number > 65_534 || elapsed > 4_095 * u64::from(number) {
+        return Err(8);
+    }
+    let size = 11 + payload.len();
+    if out.len() < size {
+        return Err(12);
+    }
+    out[0] = 0x10;
+    out[1..3].copy_from_slice(&(data.stamp as u16).to_be_bytes());
+    out[3..5].copy_from_slice(&(number as u16).to_be_bytes());
+    out[5..9].copy_from_slice(&(elapsed as u32).to_be_bytes());
+    out[11..size].copy_from_slice(payload);
+    reader.seal(&mut out[..size]);
+    Ok(size)
+}
+
+/// Nanoseconds a call of both, the best of their rounds.
+fn race(calls: usize, mut ours: impl FnMut(), mut plain: impl FnMut()) -> (f64, f64) {
+    let (mut best, mut other) = (f64::INFINITY, f64::INFINITY);
+    for _ in 0..ROUNDS {
+        let start = Instant::now();
+        (0..calls).for_each(|_| ours());
+        best = best.min(start.elapsed().as_nanos() as f64 / calls as f64);
+        let start = Instant::now();
+        (0..calls).for_each(|_| plain());
+        other = other.min(start.elapsed().as_nanos() as f64 / calls as f64);
+    }
+    (best, other)
+}
+
+fn tell(payload: usize, (ours, plain): (f64, f64)) {
+    println!(
+        "{payload:>6} octets: ours {ours:.1} ns ({:.1} million frames a second), plain Rust with slice-by-16 {plain:.1} ns = {:.2}x",
+        1_000.0 / ours,
+        plain / ours
+    );
+}
+
 fn main() {
     let reader = Reader::new();
     println!("reading a data PDU; buffers are warm and were not cleared; best of {ROUNDS} rounds");
-    for payload in [0usize, 64, 1_400] {
+    for payload in [0usize, 64, 1_400, 4_095] {
         let mut frame = vec![0u8; 11];
         frame[0] = 0x10;
         frame.extend(Noise(5).octets(payload));
         reader.seal(&mut frame);
         assert!(read(&frame).is_ok());
         assert_eq!(told(&frame), reader.read(&frame));
-        let calls = 400_000 / (payload + 40) + 50;
-        let (mut ours, mut plain) = (f64::INFINITY, f64::INFINITY);
-        for _ in 0..ROUNDS {
-            let start = Instant::now();
-            for _ in 0..calls {
-                let _ = black_box(read(black_box(&frame)));
-            }
-            ours = ours.min(start.elapsed().as_nanos() as f64 / calls as f64);
-            let start = Instant::now();
-            for _ in 0..calls {
-                let _ = black_box(reader.read(black_box(&frame)));
-            }
-            plain = plain.min(start.elapsed().as_nanos() as f64 / calls as f64);
-        }
-        println!(
-            "{payload:>6} octets: ours {ours:.1} ns ({:.1} million frames a second), plain Rust with slice-by-16 {plain:.1} ns = {:.2}x",
-            1_000.0 / ours,
-            plain / ours
-        );
+        let ours = || {
+            let _ = black_box(read(black_box(&frame)));
+        };
+        let plain = || {
+            let _ = black_box(reader.read(black_box(&frame)));
+        };
+        tell(payload, race(400_000 / (payload + 40) + 50, ours, plain));
+    }
+    println!("writing a data PDU into a lent buffer; it is warm and was not cleared");
+    for payload in [0usize, 64, 1_400, 4_095] {
+        let octets = Noise(6).octets(payload);
+        let data = Data { stamp: 4_200, number: Packets(7), elapsed: Octets(7_000), payload: &octets };
+        let (mut out, mut other) = (vec![0u8; 4_200], vec![0u8; 4_200]);
+        assert_eq!(data.write(&mut out).ok(), write_plainly(&reader, &data, &mut other).ok());
+        assert_eq!(out, other);
+        let ours = || {
+            let _ = black_box(black_box(&data).write(black_box(&mut out)));
+        };
+        let plain = || {
+            let _ = black_box(write_plainly(&reader, black_box(&data), black_box(&mut other)));
+        };
+        tell(payload, race(400_000 / (payload + 40) + 50, ours, plain));
     }
 }
