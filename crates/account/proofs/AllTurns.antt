@@ -7,7 +7,6 @@ use lib.Dec.{ltb}
 use lib.ListN.{length, take}
 use Rattle.printout.specs.Printed.{Between}
 use Rattle.printout.specs.Stepping.{betweenIn}
-use Rattle.passing.specs.Passing.{Told}
 use Rattle.passing.specs.Pieces.{InPieces, last, stopped, piece, owing}
 use Rattle.account.specs.declared.Done.{Done}
 use Rattle.account.specs.Turning.{Turned}

@@ -1,4 +1,3 @@
 pub mod AllTurns
-pub mod MovedDown
 pub mod OneTurn
 pub mod Started

@@ -1,21 +1,18 @@
 -- One turn: what was pending, with what was read behind it, is told as far as it goes. Assumes nothing.
-use Prim.Native.Nat.{ℕ, _+_, _-_, _≤_, _<_}
+use Prim.Native.Nat.{ℕ, _+_, _-_, _≤_}
 use native.Mathlib.Omega.{arith}
-use mathlib.Core.Path.{_≡_, refl, sym, ap, subst, _∙_}
-use mathlib.Core.Bool.{Bool}
-use mathlib.Core.List.{List, [], _++_}
+use mathlib.Core.Path.{_≡_, sym, ap, _∙_}
+use mathlib.Core.List.{List, _++_}
 use lib.Dec.{ltb}
 use lib.ListN.{length, take, drop, take-append-drop}
-use lib.Seq.{length-take-le, take-take, drop-append-le, take-at, take-add, drop-at}
-use Rattle.lines.specs.Text.{Puts}
+use lib.Seq.{length-take-le, take-take, take-add, drop-at}
 use Rattle.lines.proofs.Putting.{puts-whole}
-use Rattle.printout.specs.declared.Going.{Going}
 use Rattle.printout.specs.declared.Went.{Went}
 use Rattle.printout.specs.Printed.{Between}
 use Rattle.printout.specs.Stepping.{betweenIn}
+use Rattle.feeding.specs.Feeding.{ReadOn}
 use Rattle.passing.specs.Passing.{Told, Passed}
-use Rattle.account.specs.declared.Done.{Done}
-use Rattle.account.specs.Turning.{ReadOn, Turned, Turns}
+use Rattle.account.specs.Turning.{Turned}
 
 -- what was read stands behind what was pending
 read-behind : (have : ℕ) (old : List ℕ) (n : ℕ) (new : List ℕ) → ReadOn have old n new → take have old ++ drop have (take n new) ≡ take n new

@@ -1,6 +1,5 @@
 -- What is kept from one read to the next, and what is told at each. Assumes nothing.
 use Prim.Native.Nat.{ℕ, _≤_}
-use mathlib.Core.Path.{_≡_}
 use mathlib.Core.List.{List, _++_}
 use lib.Dec.{ltb}
 use lib.ListN.{length, take}
@@ -14,12 +13,6 @@ use Rattle.account.specs.declared.Done.{Done}
 pub record Turns (g : Going) (marks elapsed sizes input : List ℕ) (have : ℕ) : Type 0 where
   pub ready : Ready g marks elapsed sizes
   pub within : have ≤ length input
-
--- octets were read behind those that were there
-pub record ReadOn (have : ℕ) (old : List ℕ) (r : ℕ) (new : List ℕ) : Type 0 where
-  pub more : have ≤ r
-  pub within : r ≤ length new
-  pub kept : take have new ≡ take have old
 
 -- of what was pending and what was got the text in memory is told, and the rest is pending; a buffer that was not filled is the
 -- input's end

@@ -1,10 +1,10 @@
 // The printed account: items on standard input, accounts on standard output.
+use feeding::move_down;
+use feeding::read_on;
 use hearing::following::empty_span;
 use hearing::taking::clear;
 use hearing::taking::open_head;
-use io::read_full;
 use io::write_all;
-use libc::STDIN_FILENO;
 use libc::STDOUT_FILENO;
 use passing::pass;
 use printout::Going;
@@ -12,29 +12,7 @@ ghost use mathlib.Core.Path.{_≡_};
 ghost use Prim.Native.Nat.{_+_, _≤_};
 ghost use lib.ListN.{length, take, drop};
 ghost use Rattle.printout.specs.Stepping.{betweenIn};
-ghost use Rattle.account.specs.Turning.{ReadOn, Turned, Turns};
-
-// Reads on behind the octets that are there, and answers how many are there then.
-fn read_on(input: &mut [u8], have: usize) -> usize
-    requires { ⌜ have ≤ length (now input) ⌝ }
-    ensures { λ r. ⌜ ReadOn have (now (input .entry)) r (now (input .exit)) ⌝ }
-{
-    let behind = &mut input[have..];
-    let got = read_full(STDIN_FILENO, behind);
-    have + got
-}
-
-// Moves so many octets from a place on to the front.
-fn move_down(input: &mut [u8], from: usize, count: usize)
-    requires { ⌜ from + count ≤ length (now input) ⌝ }
-    ensures { λ _. ⌜ take count (now (input .exit)) ≡ take count (drop from (now (input .entry))) ⌝ }
-{
-    let mut i: usize = 0;
-    while i < count {
-        input[i] = input[from + i];
-        i += 1;
-    }
-}
+ghost use Rattle.account.specs.Turning.{Turned, Turns};
 
 // What is there after a read: the octets that were not passed yet, where the text to print ends, and whether it is the last.
 struct Done {

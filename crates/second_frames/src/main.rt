@@ -6,10 +6,10 @@ mod text;
 use again::list;
 use again::same_octets;
 use again::write_again;
+use feeding::move_down;
+use feeding::read_on;
 use frame::Read;
-use io::read_full;
 use io::write_all;
-use libc::STDIN_FILENO;
 use libc::STDOUT_FILENO;
 use lines::put_end;
 use text::put_again;
@@ -21,7 +21,6 @@ use text::put_written;
 ghost use mathlib.Core.Path.{_≡_};
 ghost use Prim.Native.Nat.{_+_, _≤_};
 ghost use lib.ListN.{length};
-ghost use Rattle.io.specs.Counts.{Counts};
 ghost use Rattle.second_frames.specs.Lent.{Lent};
 
 // The line of one frame.
@@ -120,27 +119,6 @@ fn pass(input: &[u8], lengths: &mut [u16], room: &mut [u8], text: &mut [u8], bef
     Passed {
         used: at,
         again: again,
-    }
-}
-
-// Reads on behind the octets that are there, and answers how many are there then.
-fn read_on(input: &mut [u8], have: usize) -> usize
-    requires { ⌜ have ≤ length (now input) ⌝ }
-    ensures { λ r. ⌜ Counts r (now (input .exit)) ⌝ }
-{
-    let behind = &mut input[have..];
-    let got = read_full(STDIN_FILENO, behind);
-    have + got
-}
-
-// Moves so many octets from a place on to the front.
-fn move_down(input: &mut [u8], from: usize, count: usize)
-    requires { ⌜ from + count ≤ length (now input) ⌝ }
-{
-    let mut i: usize = 0;
-    while i < count {
-        input[i] = input[from + i];
-        i += 1;
     }
 }
 

@@ -1,17 +1,15 @@
 -- `account::turn` meets its contract. Assumes nothing.
-use Prim.Native.Nat.{_+_, _-_, _≤_}
-use mathlib.Core.Path.{sym, _∙_}
-use lib.ListN.{length}
+use Prim.Native.Nat.{_-_, _≤_}
+use mathlib.Core.Path.{sym}
 use lib.Seq.{length-take-le}
 use Rattle.account.proofs.OneTurn.{passed-in, down-in, turn-done}
-use native.Mathlib.Omega.{arith}
 use borrow.Author.Needs.{needs}
 use Rattle.account.proofs.turn.Statement.{statement}
 use Rattle.account.proofs.turn.Tie as tie
 
 -- no more is passed than was read, and what is left is in the buffer
 passed : (c : tie.After-pass) → c .pass .result .used ≤ c .before .before .before .before .before .before .before .before .read-on .result
-passed c = passed-in _ _ _ _ _ (c .before .before .before .before .before .before .before .before .read-on .ensures) _ _ _ _ _ _ (c .pass .ensures .0)
+passed c = passed-in _ _ _ _ _ (c .before .before .before .before .before .before .before .before .read-on .ensures .1) _ _ _ _ _ _ (c .pass .ensures .0)
 
 read-on-requires : tie.Need-read-on-requires
 read-on-requires c κs = search needs
@@ -20,7 +18,7 @@ slice-reshare-prefix-pass : tie.Need-slice-reshare-prefix-pass
 slice-reshare-prefix-pass c = search needs
 
 slice-aggregate-pass : tie.Need-slice-aggregate-pass
-slice-aggregate-pass c = sym (length-take-le _ _ (c .before .before .before .before .before .before .read-on .ensures .within))
+slice-aggregate-pass c = sym (length-take-le _ _ (c .before .before .before .before .before .before .read-on .ensures .1 .within))
 
 pass-requires : tie.Need-pass-requires
 pass-requires c κs = search needs
@@ -31,7 +29,7 @@ sub-move-down c = passed (c .before .before .before .before .before .before .bef
 move-down-requires : tie.Need-move-down-requires
 move-down-requires c κs =
     let w = c .before .before .before .before .before .before .before .before .before .before in
-    down-in _ _ _ _ _ (w .before .before .before .before .before .before .before .before .read-on .ensures) _ _ _ _ _ _ (w .pass .ensures .0)
+    down-in _ _ _ _ _ (w .before .before .before .before .before .before .before .before .read-on .ensures .1) _ _ _ _ _ _ (w .pass .ensures .0)
 
 sub-t15 : tie.Need-sub-t15
 sub-t15 c = passed (c .before .before .before .before .before .before .before .before .before .before .before .before .before)
@@ -55,7 +53,7 @@ returns : tie.Need-returns
 returns c =
     let w = c .before .before .before .before .before .before .before .before .before .before .before .before .before in
     let m = c .before .before .move-down in
-    turn-done _ _ _ _ _ (w .before .before .before .before .before .before .before .before .read-on .ensures) _ _ _ _ _ _ (w .pass .ensures .0) _ (m .kept .0) (m .ensures)
+    turn-done _ _ _ _ _ (w .before .before .before .before .before .before .before .before .read-on .ensures .1) _ _ _ _ _ _ (w .pass .ensures .0) _ (m .kept .0) (m .ensures)
 
 pub turn-spec : {M : Type 1} → statement M
 turn-spec =

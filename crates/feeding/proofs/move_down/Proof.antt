@@ -1,12 +1,12 @@
--- `account::move_down` meets its contract. Assumes nothing.
+-- `feeding::move_down` meets its contract. Assumes nothing.
 use Prim.Native.Nat.{_+_, _-_, _≤_, _<_}
 use mathlib.Core.Path.{_≡_}
 use lib.ListN.{length}
-use Rattle.account.proofs.MovedDown.{Moved, none-moved, one-moved}
+use Rattle.feeding.proofs.MovedDown.{Moved, none-moved, one-moved}
 use native.Mathlib.Omega.{arith}
 use borrow.Author.Needs.{needs}
-use Rattle.account.proofs.move_down.Statement.{statement}
-use Rattle.account.proofs.move_down.Tie as tie
+use Rattle.feeding.proofs.move_down.Statement.{statement}
+use Rattle.feeding.proofs.move_down.Tie as tie
 
 abbrev Inv-loop : tie.InvT-loop
 Inv-loop input₀ from count i₀ input i = Moved input₀ from i input × (i ≤ count) × (from + count ≤ length input₀)

@@ -1,12 +1,13 @@
--- `second_frames::read_on` meets its contract. Assumes nothing.
+-- `feeding::read_on` meets its contract. Assumes nothing.
+use Prim.Native.Nat.{_+_, _-_, _≤_}
 use mathlib.Core.Path.{sym}
-use lib.Seq.{length-take-le}
-use Prim.Native.Nat.{_+_, _≤_}
 use lib.ListN.{length}
+use lib.Seq.{length-take-le}
+use borrow.Rule.Slice.PartMut.{take-put}
 use native.Mathlib.Omega.{arith}
 use borrow.Author.Needs.{needs}
-use Rattle.second_frames.proofs.read_on.Statement.{statement}
-use Rattle.second_frames.proofs.read_on.Tie as tie
+use Rattle.feeding.proofs.read_on.Statement.{statement}
+use Rattle.feeding.proofs.read_on.Tie as tie
 
 sub-behind : tie.Need-sub-behind
 sub-behind c = search needs
@@ -27,7 +28,16 @@ same-length : tie.Need-same-length
 same-length c = search needs
 
 returns : tie.Need-returns
-returns c = let h : c .before .before .before .before .before .args .have + c .before .before .read-full .result ≤ length (c .before .before .before .before .before .args .input .now) = omega arith in (search needs, sym (length-take-le _ _ (search needs)))
+returns c =
+    let a = c .before .before .before .before .before in
+    let h : a .args .have + c .before .before .read-full .result ≤ length (a .args .input .now) = omega arith in (
+      (search needs, sym (length-take-le _ _ (search needs))),
+      record {
+        more = omega arith;
+        within = search needs;
+        kept = take-put (a .args .have) (length (a .args .input .now) - a .args .have) (a .args .input .now) (c .before .before .read-full .last .1 .0) (a .pre);
+      },
+    )
 
 pub read-on-spec : {M : Type 1} → statement M
 read-on-spec =
