@@ -1,17 +1,19 @@
 -- Lists over which the union is written from the front on: the first places are as joined, the others as they were. Assumes nothing.
 use Prim.Native.Nat.{ℕ, _+_, _≤_, _<_}
-use mathlib.Core.Path.{_≡_, refl, sym, _∙_}
+use mathlib.Core.Path.{_≡_, refl, sym, ap, _∙_}
 use mathlib.Core.Logic.{⊎-elim}
 use mathlib.Core.Bool.{true, false, cond}
 use mathlib.Core.List.{List}
 use native.Mathlib.Omega.{arith}
 use lib.Dec.{eqb, ltb}
+use lib.Bits.{bitOr}
 use lib.ListN.{length, getD, set, length-set}
 use lib.Seq.{getD-set-same, getD-set-other, ext-getD}
-use borrow.Author.Tests.{eq-eqb, ne-eqb, ltb-true, ltb-false}
+use borrow.Author.Tests.{ltb-true, ltb-false}
 use Rattle.fields.proofs.Tests.{either}
 use Rattle.reception.specs.Damage.{Matched}
 use Rattle.reception.specs.Joining.{chosen}
+use Rattle.joining.specs.EitherByBits.{BitsChoose, EitherByBits}
 use Rattle.reception.proofs.JoinedAsHeld.{length-chosen, read-chosen}
 
 -- s is old, with the first k places chosen
@@ -23,24 +25,10 @@ pub record Partly (marks old other s : List ℕ) (k : ℕ) : Type 0 where
 nothing-chosen : (marks old other : List ℕ) → Partly marks old other old 0
 nothing-chosen marks old other = record { long = refl; joined = λ j lt. absurd (omega arith); rest = λ j _. refl }
 
--- at a place that the left heard its number stays
-one-kept : (marks old other s : List ℕ) (k : ℕ) → getD marks k 0 ≡ 1 → Partly marks old other s k → Partly marks old other s (k + 1)
-one-kept marks old other s k t p =
-    record {
-      long = p .long;
-      joined = λ j lt.
-          ⊎-elim (λ (u : ltb j k ≡ true). p .joined j (ltb-true j k u))
-          (λ (u : ltb j k ≡ false).
-          let q = ltb-false j k u in
-          let e : j ≡ k = omega arith in
-          rw (e, eq-eqb _ _ t) (p .rest k (omega arith))) (either (ltb j k));
-      rest = λ j le. p .rest j (omega arith);
-    }
-
--- at another the right's number is stored
-one-stored : (marks old other s : List ℕ) (k x : ℕ) → k < length s → (getD marks k 0 ≡ 1 → ⊥) → x ≡ getD other k 0 → Partly marks old other s k
-    → Partly marks old other (set s k x) (k + 1)
-one-stored marks old other s k x lt t xe p =
+-- the next place, where the bits of both are put together
+one-merged : (marks old other s : List ℕ) (k x : ℕ) → BitsChoose marks old other → k < length marks → k < length s
+    → x ≡ bitOr (getD s k 0) (getD other k 0) → Partly marks old other s k → Partly marks old other (set s k x) (k + 1)
+one-merged marks old other s k x bits here lt xe p =
     record {
       long = length-set s k x ∙ p .long;
       joined = λ j le.
@@ -51,7 +39,11 @@ one-stored marks old other s k x lt t xe p =
           (λ (u : ltb j k ≡ false).
           let q = ltb-false j k u in
           let e : j ≡ k = omega arith in
-          rw (e, ne-eqb _ _ t) (getD-set-same s k x 0 lt ∙ xe)) (either (ltb j k));
+          rw e
+          (getD-set-same s k x 0 lt
+          ∙ xe
+          ∙ ap (λ (y : ℕ). bitOr y (getD other k 0)) (p .rest k (omega arith))
+          ∙ bits k here)) (either (ltb j k));
       rest = λ j le. getD-set-other s k j x 0 (λ e. omega (arith, e)) ∙ p .rest j (omega arith);
     }
 
@@ -68,52 +60,41 @@ pub record Writing (marks₀ elapsed₀ sizes₀ om oe os marks elapsed sizes : 
   pub left : Matched marks₀ elapsed₀ sizes₀
   pub right : Matched om oe os
   pub same : length marks₀ ≡ length om
+  pub bits : EitherByBits marks₀ elapsed₀ sizes₀ om oe os
   pub marks-are : Partly marks₀ marks₀ om marks k
   pub elapsed-are : Partly marks₀ elapsed₀ oe elapsed k
   pub sizes-are : Partly marks₀ sizes₀ os sizes k
 
 pub write-start : (marks elapsed sizes om oe os : List ℕ) → Matched marks elapsed sizes → Matched om oe os → length marks ≡ length om
-    → Writing marks elapsed sizes om oe os marks elapsed sizes 0
-write-start marks elapsed sizes om oe os m n e =
+    → EitherByBits marks elapsed sizes om oe os → Writing marks elapsed sizes om oe os marks elapsed sizes 0
+write-start marks elapsed sizes om oe os m n e b =
     record {
       here = omega arith;
       left = m;
       right = n;
       same = e;
+      bits = b;
       marks-are = nothing-chosen _ _ _;
       elapsed-are = nothing-chosen _ _ _;
       sizes-are = nothing-chosen _ _ _;
     }
 
 module _ (marks₀ elapsed₀ sizes₀ om oe os marks elapsed sizes : List ℕ) (k : ℕ) (w : Writing marks₀ elapsed₀ sizes₀ om oe os marks elapsed sizes k) where
-  module _ (lt : k < length marks) where
-    pub write-kept : getD marks k 0 ≡ 1 → Writing marks₀ elapsed₀ sizes₀ om oe os marks elapsed sizes (k + 1)
-    write-kept t =
-        let o : getD marks₀ k 0 ≡ 1 = sym (w .marks-are .rest k (omega arith)) ∙ t in
-        record {
-          here = omega (arith, w .marks-are .long);
-          left = w .left;
-          right = w .right;
-          same = w .same;
-          marks-are = one-kept _ _ _ _ _ o (w .marks-are);
-          elapsed-are = one-kept _ _ _ _ _ o (w .elapsed-are);
-          sizes-are = one-kept _ _ _ _ _ o (w .sizes-are);
-        }
-
-    pub write-stored : (getD marks k 0 ≡ 1 → ⊥) → (x y z : ℕ) → x ≡ getD om k 0 → y ≡ getD oe k 0 → z ≡ getD os k 0
-        → Writing marks₀ elapsed₀ sizes₀ om oe os (set marks k x) (set elapsed k y) (set sizes k z) (k + 1)
-    write-stored t x y z xe ye ze =
-        let o : getD marks₀ k 0 ≡ 1 → ⊥ = λ q. t (w .marks-are .rest k (omega arith) ∙ q) in
-        let long : k < length marks₀ = omega (arith, w .marks-are .long) in
-        record {
-          here = omega (arith, long);
-          left = w .left;
-          right = w .right;
-          same = w .same;
-          marks-are = one-stored _ _ _ _ _ _ lt o xe (w .marks-are);
-          elapsed-are = one-stored _ _ _ _ _ _ (omega (arith, w .elapsed-are .long, w .left .elapseds, long)) o ye (w .elapsed-are);
-          sizes-are = one-stored _ _ _ _ _ _ (omega (arith, w .sizes-are .long, w .left .lengths, long)) o ze (w .sizes-are);
-        }
+  pub write-merged : k < length marks → (x y z : ℕ) → x ≡ bitOr (getD marks k 0) (getD om k 0) → y ≡ bitOr (getD elapsed k 0) (getD oe k 0)
+      → z ≡ bitOr (getD sizes k 0) (getD os k 0) → Writing marks₀ elapsed₀ sizes₀ om oe os (set marks k x) (set elapsed k y) (set sizes k z) (k + 1)
+  write-merged lt x y z xe ye ze =
+      let long : k < length marks₀ = omega (arith, w .marks-are .long) in
+      record {
+        here = omega (arith, long);
+        left = w .left;
+        right = w .right;
+        same = w .same;
+        bits = w .bits;
+        marks-are = one-merged _ _ _ _ _ _ (w .bits .marks-by) long lt xe (w .marks-are);
+        elapsed-are = one-merged _ _ _ _ _ _ (w .bits .elapsed-by) long (omega (arith, w .elapsed-are .long, w .left .elapseds, long)) ye
+            (w .elapsed-are);
+        sizes-are = one-merged _ _ _ _ _ _ (w .bits .sizes-by) long (omega (arith, w .sizes-are .long, w .left .lengths, long)) ze (w .sizes-are);
+      }
 
   pub write-end : length marks ≤ k → (marks ≡ chosen marks₀ marks₀ om) × (elapsed ≡ chosen marks₀ elapsed₀ oe) × (sizes ≡ chosen marks₀ sizes₀ os)
   write-end ge =

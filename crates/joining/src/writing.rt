@@ -3,6 +3,7 @@ ghost use mathlib.Core.Path.{_≡_};
 ghost use lib.ListN.{length};
 ghost use Rattle.reception.specs.Damage.{Matched};
 ghost use Rattle.reception.specs.Joining.{chosen, joinedHead};
+ghost use Rattle.joining.specs.EitherByBits.{EitherByBits};
 use reception::Head;
 
 // The left's key, and the closing that either heard.
@@ -24,7 +25,8 @@ pub fn joined_head(h: Head, g: Head) -> Head
     }
 }
 
-// Writes what the right holds to each place that the left did not hear.
+// Puts the bits of both together in each place. One loop without a test: what either heard comes out, since a place that was not
+// heard holds zeros, and what both heard is the same.
 pub fn write_union(
     marks: &mut [u8],
     elapsed: &mut [u32],
@@ -36,20 +38,16 @@ pub fn write_union(
     requires { ⌜ Matched (now marks) (now elapsed) (now sizes) ⌝ }
     requires { ⌜ Matched (now «r_marks») (now «r_elapsed») (now «r_sizes») ⌝ }
     requires { ⌜ length (now marks) ≡ length (now «r_marks») ⌝ }
+    requires { ⌜ EitherByBits (now marks) (now elapsed) (now sizes) (now «r_marks») (now «r_elapsed») (now «r_sizes») ⌝ }
     ensures { λ _. ⌜ (now (marks .exit) ≡ chosen (now (marks .entry)) (now (marks .entry)) (now («r_marks» .entry)))
         × (now (elapsed .exit) ≡ chosen (now (marks .entry)) (now (elapsed .entry)) (now («r_elapsed» .entry)))
         × (now (sizes .exit) ≡ chosen (now (marks .entry)) (now (sizes .entry)) (now («r_sizes» .entry))) ⌝ }
 {
     let mut k: usize = 0;
     while k < marks.len() {
-        let m = r_marks[k];
-        let e = r_elapsed[k];
-        let l = r_sizes[k];
-        if marks[k] != 1 {
-            marks[k] = m;
-            elapsed[k] = e;
-            sizes[k] = l;
-        }
+        marks[k] = marks[k] | r_marks[k];
+        elapsed[k] = elapsed[k] | r_elapsed[k];
+        sizes[k] = sizes[k] | r_sizes[k];
         k += 1;
     }
 }

@@ -8,6 +8,7 @@ use Rattle.reception.proofs.WhatHearingAdds.{sound-lists}
 use Rattle.hearing.proofs.Judged.{explained}
 use Rattle.joining.proofs.Answered.{contradicted-as, joined-as}
 use Rattle.joining.proofs.Judged.{joinable, names-packet, names-closing, joins-both}
+use Rattle.joining.proofs.BitsOfEither.{either-by-bits}
 use borrow.Author.Needs.{needs}
 use Rattle.joining.proofs.join_undamaged.Statement.{statement}
 use Rattle.joining.proofs.join_undamaged.Tie as tie
@@ -75,8 +76,13 @@ returns-2 c =
 
 write-union-requires : tie.Need-write-union-requires
 write-union-requires c κs =
-    let j = both (c .before .before .before .before .before .before .before .before .before .before .before .before .before .before .before .before .before .before .before) in
-    (sound-lists _ (j .left), (sound-lists _ (j .right), j .long))
+    let o = c .before .before .before in
+    let f = o .before in
+    let e = f .before .before .before .before in
+    let l = e .before in
+    let j = both (l .before .before .before .before .before .before .before .before .before .before) in
+    let t = joins-both _ _ j _ (l .lowest-off .ensures) (e .if1 .left) (sym (f .closing-off .ensures) ∙ o .if2 .left) in
+    (sound-lists _ (j .left), (sound-lists _ (j .right), (j .long, either-by-bits _ _ j t)))
 
 joined-head-requires : tie.Need-joined-head-requires
 joined-head-requires c κs = search needs

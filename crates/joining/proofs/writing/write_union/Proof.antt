@@ -1,10 +1,9 @@
 -- `joining::writing::write_union` meets its contract. Assumes nothing.
 use Prim.Native.Nat.{_-_}
-use mathlib.Core.Logic.{⊎-elim}
 use mathlib.Core.Path.{refl}
 use native.Mathlib.Omega.{arith}
 use lib.ListN.{length}
-use Rattle.joining.proofs.UnionWritten.{Writing, write-start, write-stored, write-kept, write-end}
+use Rattle.joining.proofs.UnionWritten.{Writing, write-start, write-merged, write-end}
 use borrow.Author.Needs.{needs}
 use Rattle.joining.proofs.writing.write_union.Statement.{statement}
 use Rattle.joining.proofs.writing.write_union.Tie as tie
@@ -17,25 +16,13 @@ abbrev μ-loop : tie.MeasureT-loop
 μ-loop marks₀ elapsed₀ sizes₀ r-marks r-elapsed r-sizes k₀ marks elapsed sizes k = length marks₀ - k
 
 loop-holds : tie.Need-loop-holds Inv-loop μ-loop
-loop-holds c = let p = c .pre in write-start _ _ _ _ _ _ (p .0) (p .1 .0) (p .1 .1)
+loop-holds c = let p = c .pre in write-start _ _ _ _ _ _ (p .0) (p .1 .0) (p .1 .1 .0) (p .1 .1 .1)
 
-shared-slice-read-m : tie.Need-shared-slice-read-m Inv-loop μ-loop
-shared-slice-read-m c = search needs
+slice-read-marks : tie.Need-slice-read-marks Inv-loop μ-loop
+slice-read-marks c = search needs
 
-mul-e : tie.Need-mul-e Inv-loop μ-loop
-mul-e c = search needs
-
-shared-slice-read-e : tie.Need-shared-slice-read-e Inv-loop μ-loop
-shared-slice-read-e c = search needs
-
-mul-l : tie.Need-mul-l Inv-loop μ-loop
-mul-l c = search needs
-
-shared-slice-read-l : tie.Need-shared-slice-read-l Inv-loop μ-loop
-shared-slice-read-l c = search needs
-
-slice-read-if1 : tie.Need-slice-read-if1 Inv-loop μ-loop
-slice-read-if1 c = search needs
+shared-slice-read-marks : tie.Need-shared-slice-read-marks Inv-loop μ-loop
+shared-slice-read-marks c = search needs
 
 slice-write-marks : tie.Need-slice-write-marks Inv-loop μ-loop
 slice-write-marks c = search needs
@@ -43,11 +30,35 @@ slice-write-marks c = search needs
 mul-elapsed : tie.Need-mul-elapsed Inv-loop μ-loop
 mul-elapsed c = search needs
 
+slice-read-elapsed : tie.Need-slice-read-elapsed Inv-loop μ-loop
+slice-read-elapsed c = search needs
+
+mul-elapsed-2 : tie.Need-mul-elapsed-2 Inv-loop μ-loop
+mul-elapsed-2 c = search needs
+
+shared-slice-read-elapsed : tie.Need-shared-slice-read-elapsed Inv-loop μ-loop
+shared-slice-read-elapsed c = search needs
+
+mul-elapsed-3 : tie.Need-mul-elapsed-3 Inv-loop μ-loop
+mul-elapsed-3 c = search needs
+
 slice-write-elapsed : tie.Need-slice-write-elapsed Inv-loop μ-loop
 slice-write-elapsed c = search needs
 
 mul-sizes : tie.Need-mul-sizes Inv-loop μ-loop
 mul-sizes c = search needs
+
+slice-read-sizes : tie.Need-slice-read-sizes Inv-loop μ-loop
+slice-read-sizes c = search needs
+
+mul-sizes-2 : tie.Need-mul-sizes-2 Inv-loop μ-loop
+mul-sizes-2 c = search needs
+
+shared-slice-read-sizes : tie.Need-shared-slice-read-sizes Inv-loop μ-loop
+shared-slice-read-sizes c = search needs
+
+mul-sizes-3 : tie.Need-mul-sizes-3 Inv-loop μ-loop
+mul-sizes-3 c = search needs
 
 slice-write-sizes : tie.Need-slice-write-sizes Inv-loop μ-loop
 slice-write-sizes c = search needs
@@ -57,15 +68,13 @@ add-k c = search needs
 
 loop-less : tie.Need-loop-less Inv-loop μ-loop
 loop-less c =
-    let i = c .before .before .before .before .before in
+    let i = c .before .before .before .before .before .before in
     omega (arith, i .loop-test .taken, i .before .loop .inv .marks-are .long)
 
 loop-again : tie.Need-loop-again Inv-loop μ-loop
 loop-again c =
-    let i = c .before .before .before .before .before in
-    ⊎-elim
-    (λ w. rw (w .1, w .2, w .3) (write-stored _ _ _ _ _ _ _ _ _ _ (i .before .loop .inv) (i .loop-test .taken) (w .0 .taken) _ _ _ refl refl refl))
-    (λ w. rw (w .1, w .2, w .3) (write-kept _ _ _ _ _ _ _ _ _ _ (i .before .loop .inv) (i .loop-test .taken) (w .0 .left))) (c .if1 .came)
+    let i = c .before .before .before .before .before .before in
+    write-merged _ _ _ _ _ _ _ _ _ _ (i .before .loop .inv) (i .loop-test .taken) _ _ _ refl refl refl
 
 same-length : tie.Need-same-length Inv-loop μ-loop
 same-length c = c .before .loop .inv .marks-are .long
@@ -86,16 +95,20 @@ write-union-spec =
     Inv-loop
     μ-loop
     loop-holds
-    shared-slice-read-m
-    mul-e
-    shared-slice-read-e
-    mul-l
-    shared-slice-read-l
-    slice-read-if1
+    slice-read-marks
+    shared-slice-read-marks
     slice-write-marks
     mul-elapsed
+    slice-read-elapsed
+    mul-elapsed-2
+    shared-slice-read-elapsed
+    mul-elapsed-3
     slice-write-elapsed
     mul-sizes
+    slice-read-sizes
+    mul-sizes-2
+    shared-slice-read-sizes
+    mul-sizes-3
     slice-write-sizes
     add-k
     loop-less
