@@ -111,8 +111,8 @@ fn next_packet(
         bearer,
         period,
         d.stamp,
-        k,
         d.elapsed.0,
+        k,
         d.length.0,
     );
     follow(h, number, span, k)

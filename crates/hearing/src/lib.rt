@@ -94,8 +94,8 @@ fn hear_data(
         bearer,
         period,
         d.stamp,
-        k,
         d.elapsed.0,
+        k,
         d.length.0,
     );
     answered(h, number)

@@ -79,7 +79,8 @@ pub fn answered(h: Head, number: u8) -> Taking
 }
 
 // A data PDU by its fields, for a record that some sending explains. Answers 0, or the refusal's number: numbers are handed over in
-// registers, where structs would go through memory.
+// registers, where structs would go through memory. Octets and length do not stand side by side: so they are not fetched by one load
+// of both, which would wait for the two stores that put them there.
 pub fn take_packet(
     h: Head,
     span: Span,
@@ -89,8 +90,8 @@ pub fn take_packet(
     bearer: u32,
     period: u32,
     stamp: u32,
-    k: usize,
     e: u64,
+    k: usize,
     l: u64,
 ) -> u8
     requires { ⌜ Matched (now marks) (now elapsed) (now sizes) ⌝ }
