@@ -1,4 +1,7 @@
 //! Hearing data PDUs beside a plain Rust record: same frames, same run, rounds taken in turn, the best round of each counts.
+//!
+//! Both clear three lists of one layout and then go over the same frames, each right after the other. The call that judges the whole record
+//! each time takes far longer, so it is timed apart and does not come between the two.
 #[path = "../peers/frames.rs"]
 mod frames;
 #[path = "../peers/generate.rs"]
@@ -119,15 +122,23 @@ struct Best {
     plain: f64,
 }
 
-fn race(reader: &Reader, heard: &Heard, capacity: usize, step: usize, rounds: usize) -> Best {
+/// How many rounds are taken: of the two that are compared, and of the call that judges the whole record.
+struct Rounds {
+    compared: usize,
+    public: usize,
+}
+
+fn race(reader: &Reader, heard: &Heard, capacity: usize, step: usize, rounds: &Rounds) -> Best {
     let mut memory = Memory::new(capacity);
     let mut record = PlainRecord::fresh(KEY.bearer, KEY.period, KEY.stamp, capacity);
     let mut best = Best { public: f64::INFINITY, one_call: f64::INFINITY, plain: f64::INFINITY };
-    for _ in 0..rounds {
+    for _ in 0..rounds.compared {
         best.plain = best.plain.min(plain(&mut record, reader, heard));
-        best.public = best.public.min(public(&mut memory, heard, step));
-        assert!(memory.holds_same(&record), "the records differ");
         best.one_call = best.one_call.min(in_one_call(&mut memory, heard));
+        assert!(memory.holds_same(&record), "the records differ");
+    }
+    for _ in 0..rounds.public {
+        best.public = best.public.min(public(&mut memory, heard, step));
         assert!(memory.holds_same(&record), "the records differ");
     }
     best
@@ -136,14 +147,18 @@ fn race(reader: &Reader, heard: &Heard, capacity: usize, step: usize, rounds: us
 fn main() {
     let reader = Reader::new();
     println!("hearing data PDUs of {PAYLOAD} octets, time a frame, a fresh record counted in; buffers are warm; best round");
-    for (capacity, step, rounds) in [(512, 1, 400), (4_096, 1, 60), (65_535, 64, 20)] {
+    for (capacity, step, rounds) in [
+        (512, 1, Rounds { compared: 1_000, public: 400 }),
+        (4_096, 1, Rounds { compared: 400, public: 60 }),
+        (65_535, 64, Rounds { compared: 100, public: 20 }),
+    ] {
         for (order, numbers) in [
             ("in order", (0..capacity).collect::<Vec<_>>()),
             ("reversed", (0..capacity).rev().collect()),
             ("one in ten lost", (0..capacity).filter(|number| number % 10 != 3).collect()),
         ] {
             let heard = Heard::new(&reader, numbers);
-            let Best { public, one_call, plain } = race(&reader, &heard, capacity, step, rounds);
+            let Best { public, one_call, plain } = race(&reader, &heard, capacity, step, &rounds);
             println!(
                 "{capacity:>6} places, {order:>15}: any record {public:.1} ns, plain Rust {plain:.1} ns = {:.4}x; in one call {one_call:.1} ns, plain Rust = {:.2}x",
                 plain / public,
