@@ -11,7 +11,7 @@ use Rattle.reception.specs.declared.Joined.the-variants.{Done as JoinDone, Cont
 use Rattle.reception.specs.declared.Report.{Report}
 use Rattle.reception.specs.declared.Reported.{Reported}
 use Rattle.reception.specs.declared.Reported.the-variants.{Done}
-use Rattle.reception.specs.declared.Taken.{Taken as TakenAnswer}
+use Rattle.reception.specs.declared.Taken.{Taken}
 use Rattle.reception.specs.declared.Taken.the-variants.{Done as TakenDone, Refused as NotTaken}
 use Rattle.reception.specs.Sendings.{Explains}
 use Rattle.reception.specs.Hearing.{Kept, Outcome, heldBy, hearFrame, takenPaper}
@@ -28,14 +28,14 @@ use Rattle.reception.proofs.OnePaper.{reported-known}
 use Rattle.reception.proofs.ReportSaid.{report-done, closed-said, said-gaps}
 use Rattle.reception.proofs.WhatHearingAdds.{Sound, packet-heard, closing-heard}
 use Rattle.reception.proofs.WhatJoiningAdds.{holds-either}
-use Rattle.demands.specs.Demand3.{Proper, OneSequence, HeardAs, Taken, JoinedAs, Accepted, emptyLike, HoldsBoth, Demand3}
+use Rattle.demands.specs.Demand3.{Proper, OneSequence, HeardAs, WasTaken, JoinedAs, Accepted, emptyLike, HoldsBoth, Demand3}
 
 -- a proper record is one to which neither 14 nor 13 applies
 sound : (k : Kept) → Proper k → Sound k
 sound k p = record { matched = matched-lists (k .marks) (k .elapsed) (k .sizes) (p .lists); undamaged = undamaged-passed (k .head .stamp) (heldBy k) (p .undamaged) }
 
 -- an accepted answer is the one that says so
-taken-done : (a : TakenAnswer) → takenPaper a .accepted ≡ 1 → a ≡ TakenDone
+taken-done : (a : Taken) → takenPaper a .accepted ≡ 1 → a ≡ TakenDone
 unfolding takenPaper
 taken-done TakenDone e = refl
 taken-done (NotTaken r) e = absurd (omega (arith, e))
@@ -53,7 +53,7 @@ abbrev join-accepted : JoinPaper → ℕ
 join-accepted p = p .accepted
 
 -- what was heard
-module _ (k : Kept) (bearer period : ℕ) (f : List ℕ) (o : Outcome) (h : HeardAs k bearer period f o) (t : Taken o) where
+module _ (k : Kept) (bearer period : ℕ) (f : List ℕ) (o : Outcome) (h : HeardAs k bearer period f o) (t : WasTaken o) where
   heard-done : hearFrame k bearer period f .answer ≡ TakenDone
   heard-done = taken-done _ (sym (ap accepted-of (h .says)) ∙ t)
 

@@ -43,8 +43,8 @@ HeardAs k bearer period f o =
     Takes (hearFrame k bearer period f) (record { answer = o .answer; head = o .kept .head }) (o .kept .marks) (o .kept .elapsed) (o .kept .sizes)
 
 -- the frame was accepted
-abbrev pub Taken : Outcome → Type 0
-Taken o = takenPaper (o .answer) .accepted ≡ 1
+abbrev pub WasTaken : Outcome → Type 0
+WasTaken o = takenPaper (o .answer) .accepted ≡ 1
 
 -- o is what joining b to a answers and leaves
 abbrev pub JoinedAs : Kept → Kept → JoinOutcome → Type 0
@@ -72,10 +72,10 @@ pub record HoldsBoth (a b r : Held) : Type 0 where
 -- the demand
 pub record Demand3 : Type 0 where
   -- "Hearing an accepted frame adds exactly that frame to a record"
-  pub packet-added : (k : Kept) (bearer period : ℕ) (f : List ℕ) (d : DataPdu) (o : Outcome) → readFrame f ≡ Data d → HeardAs k bearer period f o → Taken o
+  pub packet-added : (k : Kept) (bearer period : ℕ) (f : List ℕ) (d : DataPdu) (o : Outcome) → readFrame f ≡ Data d → HeardAs k bearer period f o → WasTaken o
       → (heldBy (o .kept) ≡ withPacket (heldBy k) (d .number .0) (d .elapsed .0) (d .length .0)) × (o .kept .head ≡ k .head)
   pub closing-added : (k : Kept) (bearer period : ℕ) (f : List ℕ) (c : ClosingPdu) (o : Outcome)
-      → (readFrame f ≡ Closing c) ⊎ (readFrame f ≡ ClosingWithLengths c) → HeardAs k bearer period f o → Taken o
+      → (readFrame f ≡ Closing c) ⊎ (readFrame f ≡ ClosingWithLengths c) → HeardAs k bearer period f o → WasTaken o
       → (heldBy (o .kept) ≡ withClosing (heldBy k) (c .number .0) (c .elapsed .0)) × (o .kept .head ≡ closedHead (k .head) (c .number .0) (c .elapsed .0))
   -- "joining obeys the laws of a union"
   pub holds-both : (a b : Kept) (o : JoinOutcome) → JoinedAs a b o → Accepted o → HoldsBoth (heldBy a) (heldBy b) (heldBy (o .kept))
