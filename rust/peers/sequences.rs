@@ -164,6 +164,15 @@ pub fn any_capacity(noise: &mut Noise, packets: usize) -> usize {
 
 pub const DAMAGES: u64 = 18;
 
+/// The number by which a record that was damaged in a way is refused; 0 where that way leaves it whole.
+pub fn found_by(way: usize) -> usize {
+    match way {
+        10 | 11 => 14,
+        12 => 0,
+        _ => 13,
+    }
+}
+
 /// One of the ways to damage a record. Some leave it whole now and then, which the peer has to find out too.
 pub fn damage(noise: &mut Noise, record: &mut Written, way: u64) {
     let place = below(noise, record.marks.len().max(1) as u64) as usize;

@@ -6,7 +6,7 @@ use crate::frames::Reader;
 use crate::generate;
 use crate::peers::Noise;
 use crate::records::{PlainRecord, Written};
-use crate::sequences::{DAMAGES, LONGEST, Sequence, Tally, any_capacity, at_a_bound, below, damage, next_to, numbered, one_in};
+use crate::sequences::{DAMAGES, LONGEST, Sequence, Tally, any_capacity, at_a_bound, below, damage, found_by, next_to, numbered, one_in};
 use quimdoral::{Key, Record, lent};
 
 /// Hears with the library and with the peer, and compares the answers and every number of the record afterwards, fences included.
@@ -181,11 +181,7 @@ fn damaged_records_are_refused_alike() {
     assert_eq!(tallies.iter().map(Tally::calls).sum::<usize>(), HEARD[2]);
     // each way to damage a record was found out, by its own number
     for (way, tally) in tallies.iter().enumerate() {
-        let number = match way {
-            10 | 11 => 14,
-            12 => 0,
-            _ => 13,
-        };
+        let number = found_by(way);
         assert!(tally.0[number] > 300, "way {way}: {tally:?}");
     }
 }

@@ -6,7 +6,7 @@ use crate::frames::Reader;
 use crate::joining::{JoinRefusal, plain_join};
 use crate::peers::Noise;
 use crate::records::Written;
-use crate::sequences::{DAMAGES, LONGEST, Sequence, any_capacity, at_a_bound, below, damage, held, lists, next_to, one_in, put};
+use crate::sequences::{DAMAGES, LONGEST, Sequence, any_capacity, at_a_bound, below, damage, found_by, held, lists, next_to, one_in, put};
 use quimdoral::{Key, Record, lent};
 use std::hint::black_box;
 
@@ -191,11 +191,7 @@ fn damaged_records_are_refused_alike_on_either_side() {
     assert_eq!(tallies.iter().flatten().map(Tally::calls).sum::<usize>(), JOINED[2]);
     // each way to damage a record was found out, on either side, by its own number
     for (way, sides) in tallies.iter().enumerate() {
-        let number = match way {
-            10 | 11 => 14,
-            12 => 0,
-            _ => 13,
-        };
+        let number = found_by(way);
         assert!(sides.iter().all(|tally| tally.numbers[number] > 300), "way {way}: {sides:?}");
     }
 }

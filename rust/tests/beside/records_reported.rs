@@ -6,7 +6,9 @@ use crate::frames::Reader;
 use crate::peers::Noise;
 use crate::records::Written;
 use crate::reports::{Room, plain_report};
-use crate::sequences::{DAMAGES, LONGEST, Sequence, Tally, any_capacity, at_a_bound, below, damage, held, lists, numbered, one_in, put};
+use crate::sequences::{
+    DAMAGES, LONGEST, Sequence, Tally, any_capacity, at_a_bound, below, damage, found_by, held, lists, numbered, one_in, put,
+};
 use quimdoral::{Amount, Gap, Key, Octets, Packets, Record, Report, lent};
 use std::hint::black_box;
 
@@ -125,11 +127,7 @@ fn damaged_records_are_refused_alike() {
     assert_eq!(tallies.iter().map(Tally::calls).sum::<usize>(), REPORTED[2]);
     // each way to damage a record was found out, by its own number
     for (way, tally) in tallies.iter().enumerate() {
-        let number = match way {
-            10 | 11 => 14,
-            12 => 0,
-            _ => 13,
-        };
+        let number = found_by(way);
         assert!(tally.0[number] > 300, "way {way}: {tally:?}");
     }
 }
