@@ -15,6 +15,8 @@ use Rattle.frame.specs.Layout.{lengthAt, sumLengths}
 use Rattle.frame.specs.Paper.{readPaper}
 use Rattle.frame.specs.Reading.{readFrame, readHeaded, readBody}
 use Rattle.frame.specs.Writing.{dataFrame, closingFrame, lengthsFrame, packed}
+use Rattle.sender.specs.State.{damaged}
+use Rattle.sender.specs.Calls.{openCall, dataCall}
 use Rattle.reception.specs.Adding.{packetContradicts}
 use Rattle.reception.specs.Damage.{placeWrong, placesWrong, closingOff, walkFails, damagedRecord}
 use Rattle.reception.specs.Walk.{reach, fits, mayEnd, walk, isExplained}
@@ -41,7 +43,7 @@ each-row (r ∷ rs) e =
 
 -- the test
 table-agrees : agree table ≡ true
-unfolding someOf reach fits mayEnd walk isExplained packetContradicts placeWrong placesWrong closingOff walkFails damagedRecord be octets divide lowDigits bitsOf check past dueAt nearest late duePaper sumOf dataWrong closingWrong lengthsWrong lengthAt sumLengths readPaper readFrame readHeaded readBody dataFrame closingFrame lengthsFrame packed listsDiffer otherKey hearPacket hearRead hearFrame takenPaper answers alike agree
+unfolding damaged openCall dataCall someOf reach fits mayEnd walk isExplained packetContradicts placeWrong placesWrong closingOff walkFails damagedRecord be octets divide lowDigits bitsOf check past dueAt nearest late duePaper sumOf dataWrong closingWrong lengthsWrong lengthAt sumLengths readPaper readFrame readHeaded readBody dataFrame closingFrame lengthsFrame packed listsDiffer otherKey hearPacket hearRead hearFrame takenPaper answers alike agree
 table-agrees = refl
 
 -- all of the table

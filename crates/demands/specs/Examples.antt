@@ -8,10 +8,12 @@ use lib.Dec.{eqb}
 use lib.IntN.{ℤ, pos, negsuc}
 use Rattle.clock.specs.Clock.{dueAt, late}
 use Rattle.clock.specs.Paper.{DuePaper, duePaper}
-use Rattle.frame.specs.declared.ClosingPdu.{ClosingPdu}
 use Rattle.frame.specs.Paper.{ReadPaper, readPaper}
 use Rattle.frame.specs.Reading.{readFrame}
 use Rattle.frame.specs.Writing.{dataFrame, closingFrame, lengthsFrame}
+use Rattle.sender.specs.declared.Sender.{Sender}
+use Rattle.sender.specs.State.{freshSender, closingBy}
+use Rattle.sender.specs.Calls.{openCall, dataCall}
 use Rattle.reception.specs.Hearing.{emptyKept}
 use Rattle.reception.specs.Several.{answers, numberOf}
 
@@ -39,10 +41,17 @@ D = 0x30 ∷ 0 ∷ 0 ∷ 0 ∷ 1 ∷ 0 ∷ 0 ∷ 0 ∷ 1 ∷ 0 ∷ 0 ∷ 1 ∷ 0
 abbrev pub E : List ℕ
 E = 0 ∷ 0 ∷ 0 ∷ 0 ∷ 0 ∷ 0 ∷ 0 ∷ 0 ∷ 0 ∷ 0 ∷ 0 ∷ 0 ∷ 0 ∷ 0 ∷ 0 ∷ 0 ∷ 0 ∷ 0 ∷ []
 
--- a closing "after B alone": one packet of one octet, in the sequence and in the period
-abbrev afterB : ClosingPdu
-afterB =
-    record { stamp = 0; number = record { 0 = 1 }; elapsed = record { 0 = 1 }; packets = record { 0 = 1 }; octets = record { 0 = 1 } }
+-- our sender in its first sequence, opened with "stamp 0"
+abbrev opened : Sender
+opened = openCall freshSender 0 .sender
+
+-- and "after B alone": it sent one octet, into twelve octets of room
+abbrev afterB : Sender
+afterB = dataCall opened 1 12 .sender
+
+-- the data PDU that a sender writes of a payload
+abbrev pub dataBy : Sender → List ℕ → List ℕ
+dataBy s p = dataFrame (s .stamp) (s .number .0) (s .elapsed .0) p
 
 -- what reading gives: the refusal's number or 0, one more than the type, stamp, number, elapsed, the two totals, the payload's length
 abbrev readPaperList : ReadPaper → List ℕ
@@ -87,13 +96,13 @@ a gives b = record { worked = a; printed = b }
 -- "The starred examples are proved together as one table"
 abbrev pub table : List Row
 table =
-    (dataFrame 0 0 0 [] gives A)
+    (dataBy opened [] gives A)
     ∷ (reading A gives 0 ∷ 2 ∷ 0 ∷ 0 ∷ 0 ∷ 0 ∷ 0 ∷ 0 ∷ [])
-    ∷ (dataFrame 0 0 0 (1 ∷ []) gives B)
+    ∷ (dataBy opened (1 ∷ []) gives B)
     ∷ (reading B gives 0 ∷ 2 ∷ 0 ∷ 0 ∷ 0 ∷ 0 ∷ 0 ∷ 1 ∷ [])
-    ∷ (closingFrame afterB gives C)
+    ∷ (closingFrame (closingBy afterB) gives C)
     ∷ (reading C gives 0 ∷ 1 ∷ 0 ∷ 1 ∷ 1 ∷ 1 ∷ 1 ∷ 0 ∷ [])
-    ∷ (lengthsFrame afterB (1 ∷ []) gives D)
+    ∷ (lengthsFrame (closingBy afterB) (1 ∷ []) gives D)
     ∷ (reading D gives 0 ∷ 4 ∷ 0 ∷ 1 ∷ 1 ∷ 1 ∷ 1 ∷ 0 ∷ [])
     ∷ (reading D-printed gives 7 ∷ 0 ∷ 0 ∷ 0 ∷ 0 ∷ 0 ∷ 0 ∷ 0 ∷ [])
     ∷ (reading E gives 0 ∷ 1 ∷ 0 ∷ 0 ∷ 0 ∷ 0 ∷ 0 ∷ 0 ∷ [])
