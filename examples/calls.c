@@ -1,6 +1,6 @@
 /*
- * Every function of quimdoral.h, called once or more on the bench examples A to D and I of the rules: nothing else compares the header with
- * the library. Prints nothing but what is wrong, and ends with status 0 only if nothing is.
+ * Every function of quimdoral.h, called once or more on the bench examples A to D and I of the rules: include/compare has compared the
+ * declarations, and this calls what was linked. Prints nothing but what is wrong, and ends with status 0 only if nothing is.
  */
 #include <stdio.h>
 #include <string.h>

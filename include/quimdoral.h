@@ -79,8 +79,8 @@ enum {
  * The remainders of clause 5.6.2: of the octets followed by six zero bits, divided by D^6+D^5+D^3+D^2+D+1, and of the octets followed by
  * ten zero bits, divided by D^10+D^9+D^5+D^4+D+1. Of no octets each is 0. Nothing is refused.
  */
-uint8_t quimdoral_header_check(const uint8_t *octets, size_t length);
-uint16_t quimdoral_payload_check(const uint8_t *octets, size_t length);
+uint8_t quimdoral_header_check(const uint8_t *octets, size_t octets_length);
+uint16_t quimdoral_payload_check(const uint8_t *octets, size_t octets_length);
 
 /*
  * ----------------------------------------------------------------------------------------------------------------- Reading
@@ -100,7 +100,7 @@ enum {
     QUIMDORAL_SAID_PAYLOAD = 6,  /* data: octets of its payload, which stands from the twelfth octet of the frame on */
     QUIMDORAL_SAID_NUMBERS = 7
 };
-uint8_t quimdoral_read_frame(const uint8_t *frame, size_t length, uint64_t *said, size_t said_length);
+uint8_t quimdoral_read_frame(const uint8_t *frame, size_t frame_length, uint64_t *said, size_t said_length);
 
 /*
  * quimdoral_read_lengths: the payload lengths that a Type 3 frame carries, in front of `lengths`. Frames of Types 0 and 1 are accepted and
@@ -109,7 +109,7 @@ uint8_t quimdoral_read_frame(const uint8_t *frame, size_t length, uint64_t *said
  * Answers a value: how many lengths were written. Refuses in reading's order: 1, 2, 3, 1, 4, 5, 6, 7, 8, then 12 where the lengths have no
  * room. `frame` is only read.
  */
-uint64_t quimdoral_read_lengths(const uint8_t *frame, size_t length, uint16_t *lengths, size_t lengths_length);
+uint64_t quimdoral_read_lengths(const uint8_t *frame, size_t frame_length, uint16_t *lengths, size_t lengths_length);
 
 /*
  * ------------------------------------------------------------------------------------- Writing frames from given fields
@@ -219,7 +219,7 @@ uint8_t quimdoral_fresh(uint32_t bearer, uint32_t period, uint32_t stamp,
  * read. Answers 0, or a refusal's number, in this order: 14, reading's order (1, 2, 3, 1, 4, 5, 6, 7, 8), 13, 9, 10, 11. */
 uint8_t quimdoral_hear(uint64_t *head, size_t head_length, uint8_t *marks, size_t marks_length,
                        uint32_t *elapsed, size_t elapsed_length, uint16_t *sizes, size_t sizes_length,
-                       uint32_t bearer, uint32_t period, const uint8_t *frame, size_t length);
+                       uint32_t bearer, uint32_t period, const uint8_t *frame, size_t frame_length);
 
 /* quimdoral_hear_all: makes an empty record of a sequence and takes many frames into it, one after the other, which is quicker than a call
  * for each. The frames stand in one row of octets; ends[i] is the place behind the i-th, which begins where the one before it ends. A place
@@ -229,7 +229,7 @@ uint8_t quimdoral_hear(uint64_t *head, size_t head_length, uint8_t *marks, size_
 uint8_t quimdoral_hear_all(uint32_t bearer, uint32_t period, uint32_t stamp,
                            uint64_t *head, size_t head_length, uint8_t *marks, size_t marks_length,
                            uint32_t *elapsed, size_t elapsed_length, uint16_t *sizes, size_t sizes_length,
-                           const uint8_t *octets, size_t length, const uint32_t *ends, size_t ends_length,
+                           const uint8_t *octets, size_t octets_length, const uint32_t *ends, size_t ends_length,
                            uint8_t *numbers, size_t numbers_length);
 
 /* quimdoral_join: adds to the left record what the right one heard. The right one, whose names begin with r_, is only read. Both are of one

@@ -10,10 +10,10 @@ use std::mem::MaybeUninit;
 
 #[rustfmt::skip]
 unsafe extern "C" {
-    fn quimdoral_header_check(octets: *const u8, length: usize) -> u8;
-    fn quimdoral_payload_check(octets: *const u8, length: usize) -> u16;
-    fn quimdoral_read_frame(frame: *const u8, length: usize, said: *mut u64, room: usize) -> u8;
-    fn quimdoral_read_lengths(frame: *const u8, length: usize, lengths: *mut u16, lengths_length: usize) -> u64;
+    fn quimdoral_header_check(octets: *const u8, octets_length: usize) -> u8;
+    fn quimdoral_payload_check(octets: *const u8, octets_length: usize) -> u16;
+    fn quimdoral_read_frame(frame: *const u8, frame_length: usize, said: *mut u64, said_length: usize) -> u8;
+    fn quimdoral_read_lengths(frame: *const u8, frame_length: usize, lengths: *mut u16, lengths_length: usize) -> u64;
     fn quimdoral_write_data(
         stamp: u32, number: u32, elapsed: u64,
         payload: *const u8, payload_length: usize,
@@ -59,7 +59,7 @@ unsafe extern "C" {
         elapsed: *mut u32, elapsed_length: usize,
         sizes: *mut u16, sizes_length: usize,
         bearer: u32, period: u32,
-        frame: *const u8, length: usize,
+        frame: *const u8, frame_length: usize,
     ) -> u8;
     fn quimdoral_hear_all(
         bearer: u32, period: u32, stamp: u32,
@@ -67,7 +67,7 @@ unsafe extern "C" {
         marks: *mut u8, marks_length: usize,
         elapsed: *mut u32, elapsed_length: usize,
         sizes: *mut u16, sizes_length: usize,
-        octets: *const u8, length: usize,
+        octets: *const u8, octets_length: usize,
         ends: *const u32, ends_length: usize,
         numbers: *mut u8, numbers_length: usize,
     ) -> u8;
