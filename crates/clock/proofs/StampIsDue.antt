@@ -12,23 +12,23 @@ use Rattle.clock.specs.Clock.{past, stampOf, dueAt}
 use Rattle.clock.proofs.Wrapping.{past-back, past-only}
 
 -- an accepted moment is less than 60,000 ticks past the start, and its stamp says how many
-pub stamp-is : (tick start n : ℕ) → stampOf tick start ≡ Stamp n → (n < 60000) × (past tick start ≡ n)
+pub stamp-is : (start tick n : ℕ) → stampOf start tick ≡ Stamp n → (n < 60000) × (past tick start ≡ n)
 unfolding stampOf
-stamp-is tick start n e =
+stamp-is start tick n e =
     let s = choosing.past (NoStamp (refusing periodOver)) (Stamp (past tick start)) (Stamp n) (leb 60000 (past tick start))
     (λ w. let z : _≡_ {A = ℕ} 0 1 = cc in omega arith) e in
     let q : past tick start ≡ n = cc in
     (omega (arith, leb-false 60000 (past tick start) (s .0)), q)
 
-pub stamp-due : (tick start n : ℕ) → tick < 2 ^ 32 → start < 2 ^ 32 → stampOf tick start ≡ Stamp n → dueAt start n ≡ At tick
+pub stamp-due : (start tick n : ℕ) → tick < 2 ^ 32 → start < 2 ^ 32 → stampOf start tick ≡ Stamp n → dueAt start n ≡ At tick
 unfolding dueAt
-stamp-due tick start n h k e =
-    let s = stamp-is tick start n e in
+stamp-due start tick n h k e =
+    let s = stamp-is start tick n e in
     rw (le-ltb 59999 n (omega arith), ← s .1, past-back tick start h k)
 
-pub due-stamp : (tick start n : ℕ) → start < 2 ^ 32 → dueAt start n ≡ At tick → stampOf tick start ≡ Stamp n
+pub due-stamp : (start tick n : ℕ) → start < 2 ^ 32 → dueAt start n ≡ At tick → stampOf start tick ≡ Stamp n
 unfolding dueAt stampOf
-due-stamp tick start n k e =
+due-stamp start tick n k e =
     let s = choosing.past (NotDue (refusing stampTooHigh)) (At ((start + n) % 2 ^ 32)) (At tick) (ltb 59999 n)
     (λ w. let z : _≡_ {A = ℕ} 0 1 = cc in omega arith) e in
     let h = ltb-false 59999 n (s .0) in

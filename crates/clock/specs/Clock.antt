@@ -16,7 +16,7 @@ past tick start = (tick + 2 ^ 32 - start) % 2 ^ 32
 
 -- "The stamp of a moment is its tick less the period's start"; refusal 23, "clock is 60,000 ticks or more past the period's start"
 unfoldable pub stampOf : ℕ → ℕ → Moment
-stampOf tick start =
+stampOf start tick =
     NoStamp (refusing periodOver) when leb 60000 (past tick start) otherwise
     Stamp (past tick start)
 

@@ -29,8 +29,8 @@ const EARLY_FROM: u32 = 2147483648;
 const ALL_TICKS: i64 = 4294967296;
 
 // The stamp of the moment `tick` in the period that started at `start`.
-pub fn stamp_of(tick: u32, start: u32) -> Moment
-    ensures { λ r. ⌜ momentPaper r ≡ momentPaper (stampOf tick start) ⌝ }
+pub fn stamp_of(start: u32, tick: u32) -> Moment
+    ensures { λ r. ⌜ momentPaper r ≡ momentPaper (stampOf start tick) ⌝ }
 {
     let past = wrapping_sub_u32(tick, start);
     if LAST_STAMP < past as u64 {

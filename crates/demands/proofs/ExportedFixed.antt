@@ -46,7 +46,7 @@ one-exported =
           let d = p .leaves-octets ∙ sym (q .leaves-octets) in
           let e = p .leaves-figures ∙ sym (q .leaves-figures) in
           λ i. (a i, b i, c i, d i, e i);
-      stamp-of = λ tick start x y p q. p ∙ sym q;
+      stamp-of = λ start tick x y p q. p ∙ sym q;
       due = λ start stamp x y p q. p ∙ sym q;
       lateness = λ arrival at x y p q. p ∙ sym q;
     }

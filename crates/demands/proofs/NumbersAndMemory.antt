@@ -18,7 +18,7 @@ demand-1 =
       sending = λ s p old r new w. sends-carry _ s _ _ old r new (data-stays s (length p) (length old)) w;
       closing = λ s old r new w. sends-carry _ s _ _ old r new (close-stays s (length old)) w;
       closing-with-lengths = λ s ls old r new w. sends-carry _ s _ _ old r new (close-with-stays s ls (length old)) w;
-      stamping = λ tick start r e. rw e (moment-carries tick start);
+      stamping = λ start tick r e. rw e (moment-carries start tick);
       due-time = λ start stamp r e. rw e (due-carries start stamp);
       fresh-record = λ bearer period stamp marks elapsed sizes r m e s w.
           takes-leaves _ _ _ r m e s (fresh-leaves bearer period stamp marks elapsed sizes) w;

@@ -146,9 +146,9 @@ lengths-carry c ls room =
 abbrev MomentCarries : Moment → Type 0
 MomentCarries x = carries ofStamp (momentPaper x .number) (momentPaper x .accepted) ≡ true
 
-pub moment-carries : (tick start : ℕ) → MomentCarries (momentOf tick start)
+pub moment-carries : (start tick : ℕ) → MomentCarries (momentOf start tick)
 unfolding momentOf momentPaper among
-moment-carries tick start = whichever MomentCarries _ _ (leb 60000 (past tick start)) refl (λ _. refl)
+moment-carries start tick = whichever MomentCarries _ _ (leb 60000 (past tick start)) refl (λ _. refl)
 
 abbrev DueCarries : DueTime → Type 0
 DueCarries x = carries ofDue (duePaper x .number) (duePaper x .accepted) ≡ true

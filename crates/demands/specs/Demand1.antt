@@ -140,7 +140,7 @@ pub record Demand1 : Type 0 where
       → SendsOn ofClosing s r old new
   pub closing-with-lengths : (s : Sender) (ls old : List ℕ) (r : Sending) (new : List ℕ)
       → Sends (closeWithCall s ls (length old)) (lengthsFrame (closingBy s) ls) old r new → SendsOn ofClosingLengths s r old new
-  pub stamping : (tick start : ℕ) (r : Moment) → momentPaper r ≡ momentPaper (stampOf tick start)
+  pub stamping : (start tick : ℕ) (r : Moment) → momentPaper r ≡ momentPaper (stampOf start tick)
       → carries ofStamp (momentPaper r .number) (momentPaper r .accepted) ≡ true
   pub due-time : (start stamp : ℕ) (r : DueTime) → duePaper r ≡ duePaper (dueAt start stamp)
       → carries ofDue (duePaper r .number) (duePaper r .accepted) ≡ true

@@ -46,6 +46,6 @@ pub record OneExported : Type 0 where
   pub report : (head : List ℕ) (k : Kept) (firsts counts octets figures : List ℕ)
       → Fixes (λ (o : ℕ × Lent × Lent × Lent × Lent). Figures head k firsts counts octets figures (o .0) (o .1) (o .2) (o .3) (o .4))
   -- `quimdoral_stamp_of`, `quimdoral_due`, `quimdoral_lateness`
-  pub stamp-of : (tick start : ℕ) → Fixes (λ (r : ℕ). r ≡ momentNumber (stampOf tick start))
+  pub stamp-of : (start tick : ℕ) → Fixes (λ (r : ℕ). r ≡ momentNumber (stampOf start tick))
   pub due : (start stamp : ℕ) → Fixes (λ (r : ℕ). r ≡ dueNumber (dueAt start stamp))
   pub lateness : (arrival at : ℕ) → Fixes (λ (r : ℤ). r ≡ late arrival at)

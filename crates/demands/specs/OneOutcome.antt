@@ -52,7 +52,7 @@ pub record OneOutcome : Type 0 where
       → Fixes (λ (o : Written × Lent). Wrote (writeClosing c (length old)) (closingFrame c) old (o .0) (o .1))
   pub write-closing-with-lengths : (c : ClosingPdu) (ls old : List ℕ)
       → Fixes (λ (o : Written × Lent). Wrote (writeLengths c ls (length old)) (lengthsFrame c ls) old (o .0) (o .1))
-  pub stamp-of : (tick start : ℕ) → Fixes (λ (r : Moment). momentPaper r ≡ momentPaper (stampOf tick start))
+  pub stamp-of : (start tick : ℕ) → Fixes (λ (r : Moment). momentPaper r ≡ momentPaper (stampOf start tick))
   pub due : (start stamp : ℕ) → Fixes (λ (r : DueTime). duePaper r ≡ duePaper (dueAt start stamp))
   pub lateness : (arrival at : ℕ) → Fixes (λ (r : ℤ). r ≡ late arrival at)
   -- the sender's calls, by value and where the sender stands: both have these promises

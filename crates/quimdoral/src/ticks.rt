@@ -10,10 +10,10 @@ ghost use Rattle.quimdoral.specs.Ticks.{momentNumber, dueNumber};
 
 // The stamp of the moment `tick` in the period that started at `start`.
 #[no_mangle]
-pub extern "C" fn quimdoral_stamp_of(tick: u32, start: u32) -> u64
-    ensures { λ r. ⌜ r ≡ momentNumber (stampOf tick start) ⌝ }
+pub extern "C" fn quimdoral_stamp_of(start: u32, tick: u32) -> u64
+    ensures { λ r. ⌜ r ≡ momentNumber (stampOf start tick) ⌝ }
 {
-    let moment = stamp_of(tick, start);
+    let moment = stamp_of(start, tick);
     match moment {
         Moment::Refused(r) => r.number as u64,
         Moment::Stamp(n) => 256 * (n as u64),
