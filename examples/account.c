@@ -132,7 +132,7 @@ int main(void)
     /* Ticks start over within this period; only how far one is past another counts. */
     const uint32_t start = 4294967290u;
     const uint32_t now = 4u;
-    const uint32_t stamp = (uint32_t)accepted(quimdoral_stamp_of(now, start), "the stamp of a moment");
+    const uint32_t stamp = (uint32_t)accepted(quimdoral_stamp_of(start, now), "the stamp of a moment");
     const uint32_t due = (uint32_t)accepted(quimdoral_due(start, stamp), "the due time");
     struct frame frames[PACKETS + 1];
     struct frame spoilt;

@@ -125,8 +125,8 @@ static void clock_calls(void)
     expect(QUIMDORAL_VALUE(quimdoral_due(4294967290u, 10)) == 4, "example I, due");
     expect(quimdoral_due(0, 60000) == QUIMDORAL_STAMP_TOO_HIGH, "due at no stamp");
     expect(QUIMDORAL_VALUE(quimdoral_due(4294967295u, 0)) == 4294967295u, "the last tick");
-    expect(QUIMDORAL_VALUE(quimdoral_stamp_of(4, 4294967290u)) == 10, "the stamp of a moment");
-    expect(quimdoral_stamp_of(60000, 0) == QUIMDORAL_PERIOD_OVER, "the period is over");
+    expect(QUIMDORAL_VALUE(quimdoral_stamp_of(4294967290u, 4)) == 10, "the stamp of a moment");
+    expect(quimdoral_stamp_of(0, 60000) == QUIMDORAL_PERIOD_OVER, "the period is over");
     expect(quimdoral_lateness(3, 4) == -1 && quimdoral_lateness(2147483652u, 4) == INT32_MIN, "example I, lateness");
 }
 

@@ -271,8 +271,8 @@ uint8_t quimdoral_report(const uint64_t *head, size_t head_length, const uint8_t
  * Ticks of 10 ms, which start over after 4,294,967,295. No two ticks are compared; only how far one is past another counts.
  */
 
-/* quimdoral_stamp_of: the stamp of a moment in the period that started at `start`. Answers a value: the stamp. Refuses with 23. */
-uint64_t quimdoral_stamp_of(uint32_t tick, uint32_t start);
+/* quimdoral_stamp_of: the stamp of the moment `tick` in the period that started at `start`. Answers a value: the stamp. Refuses with 23. */
+uint64_t quimdoral_stamp_of(uint32_t start, uint32_t tick);
 
 /* quimdoral_due: when a frame with a stamp is due. Answers a value: the tick, which has 32 bits. Refuses with 5. */
 uint64_t quimdoral_due(uint32_t start, uint32_t stamp);

@@ -5,7 +5,7 @@ from sync import LAST_STAMP, refuse_if
 TICKS = 1 << 32
 
 
-def stamp_of(tick, start):
+def stamp_of(start, tick):
     """The stamp of a moment. A moment before the start is far past it, since ticks start over."""
     stamp = (tick - start) % TICKS
     refuse_if(stamp > LAST_STAMP, 23)

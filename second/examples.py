@@ -90,8 +90,8 @@ def ticks():
     same(clock.lateness(3, 4), -1)
     same(clock.lateness(2_147_483_652, 4), -2_147_483_648)
     same(clock.lateness(2_147_483_651, 4), 2_147_483_647)
-    same(clock.stamp_of(4, start), 10)
-    same(refusal(clock.stamp_of, start - 1, start), 23)
+    same(clock.stamp_of(start, 4), 10)
+    same(refusal(clock.stamp_of, start, start - 1), 23)
 
 
 def printed_account():

@@ -6,7 +6,7 @@
 
 const ROUND: i64 = 1 << 32;
 
-pub fn stamp_of(tick: u32, start: u32) -> Result<u32, u8> {
+pub fn stamp_of(start: u32, tick: u32) -> Result<u32, u8> {
     let stamp = (i64::from(tick) - i64::from(start)).rem_euclid(ROUND);
     if stamp < 60_000 { Ok(stamp as u32) } else { Err(23) }
 }

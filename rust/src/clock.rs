@@ -12,17 +12,17 @@ use crate::{Refusal, raw};
 #[derive(Clone, Copy, Debug, PartialEq, Eq, Hash)]
 pub struct Tick(pub u32);
 
-/// The stamp of a moment in the period that started at `start`: the tick less the start, modulo 2^32. Refusals: 23.
+/// The stamp of a moment in the period that started at `start`: the moment's tick less the start, modulo 2^32. Refusals: 23.
 ///
 /// ```
 /// use quimdoral::{Refusal, clock::{Tick, stamp_of}};
-/// assert_eq!(stamp_of(Tick(4), Tick(4_294_967_290)), Ok(10));
-/// assert_eq!(stamp_of(Tick(60_100), Tick(100)), Err(Refusal::PeriodOver));
+/// assert_eq!(stamp_of(Tick(4_294_967_290), Tick(4)), Ok(10));
+/// assert_eq!(stamp_of(Tick(100), Tick(60_100)), Err(Refusal::PeriodOver));
 /// ```
 #[inline]
-pub fn stamp_of(moment: Tick, start: Tick) -> Result<u32, Refusal> {
+pub fn stamp_of(start: Tick, moment: Tick) -> Result<u32, Refusal> {
     // It fits: a stamp is below 60,000.
-    of_answer(raw::quimdoral_stamp_of(moment.0, start.0)).map(|stamp| stamp as u32)
+    of_answer(raw::quimdoral_stamp_of(start.0, moment.0)).map(|stamp| stamp as u32)
 }
 
 /// When a frame with a stamp is due: start plus stamp, modulo 2^32. Refusals: 5.

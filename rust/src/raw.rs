@@ -43,7 +43,7 @@ unsafe extern "C" {
     ) -> u64;
     fn quimdoral_sender_new_period(state: *mut u64, state_length: usize) -> u8;
     // SAFETY: numbers alone, and every number is taken.
-    pub safe fn quimdoral_stamp_of(tick: u32, start: u32) -> u64;
+    pub safe fn quimdoral_stamp_of(start: u32, tick: u32) -> u64;
     pub safe fn quimdoral_due(start: u32, stamp: u32) -> u64;
     pub safe fn quimdoral_lateness(arrival: u32, due_at: u32) -> i32;
     fn quimdoral_fresh(

@@ -14,9 +14,9 @@ struct Answers {
 }
 
 impl Answers {
-    fn compare(&mut self, tick: u32, start: u32, stamp: u32) {
-        let ours = numbered(stamp_of(Tick(tick), Tick(start)));
-        assert_eq!(ours, ticks::stamp_of(tick, start), "the stamp of {tick} in the period from {start}");
+    fn compare(&mut self, start: u32, tick: u32, stamp: u32) {
+        let ours = numbered(stamp_of(Tick(start), Tick(tick)));
+        assert_eq!(ours, ticks::stamp_of(start, tick), "the stamp of {tick} in the period from {start}");
         let at = numbered(due(Tick(start), stamp)).map(|due| due.0);
         assert_eq!(at, ticks::due(start, stamp), "when {stamp} is due in the period from {start}");
         let late = lateness(Tick(tick), Tick(start));
@@ -38,8 +38,8 @@ fn ticks_at_every_limit() {
     for start in LIMITS {
         for past in LIMITS {
             for stamp in LIMITS {
-                answers.compare(start.wrapping_add(past), start, stamp);
-                answers.compare(past, start, stamp);
+                answers.compare(start, start.wrapping_add(past), stamp);
+                answers.compare(start, past, stamp);
             }
         }
     }
@@ -57,7 +57,7 @@ fn any_ticks() {
         };
         let stamp =
             [below(&mut noise, 60_000) as u32, below(&mut noise, 70_000) as u32, noise.next() as u32][below(&mut noise, 3) as usize];
-        answers.compare(tick, start, stamp);
+        answers.compare(start, tick, stamp);
     }
     let Answers { stamps, dues, early } = &answers;
     assert!([stamps, dues, early].iter().all(|two| two.iter().all(|&times| times > TICKS / 10)), "{answers:?}");
