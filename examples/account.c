@@ -52,10 +52,10 @@ static uint64_t accepted(uint64_t answer, const char *what)
     return QUIMDORAL_VALUE(answer);
 }
 
-/* Sends the packets as one sequence: a frame for each, and a Type 3 closing behind them. */
+/* Sends the packets as one sequence: a frame for each, and a Type 3 closing behind them. One packet has nothing in it. */
 static void send_sequence(uint32_t stamp, struct frame frames[PACKETS + 1])
 {
-    static const char *const packets[PACKETS] = {"Flood warning", "River Dove", "", "Avoid the bridge at", "Mill Lane"};
+    static const char *const packets[PACKETS] = {"Flood warning", "River Dove", NULL, "Avoid the bridge at", "Mill Lane"};
     uint64_t sender[QUIMDORAL_SENDER_NUMBERS];
     uint16_t lengths[PACKETS];
     size_t i;
@@ -64,8 +64,9 @@ static void send_sequence(uint32_t stamp, struct frame frames[PACKETS + 1])
     accepted(quimdoral_sender_open(sender, QUIMDORAL_SENDER_NUMBERS, stamp), "opening the sequence");
     for (i = 0; i < PACKETS; i++) {
         struct frame *f = &frames[i];
-        lengths[i] = (uint16_t)strlen(packets[i]);
-        f->length = (size_t)accepted(quimdoral_sender_data(sender, QUIMDORAL_SENDER_NUMBERS, (const uint8_t *)packets[i], lengths[i],
+        lengths[i] = packets[i] == NULL ? 0 : (uint16_t)strlen(packets[i]);
+        f->length = (size_t)accepted(quimdoral_sender_data(sender, QUIMDORAL_SENDER_NUMBERS,
+                                                           quimdoral_lend_const_u8((const uint8_t *)packets[i]), lengths[i],
                                                            f->octets, ROOM), "a data PDU");
         expect(f->length == QUIMDORAL_DATA_SIZE(lengths[i]), "the size of a data PDU");
     }

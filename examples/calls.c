@@ -120,6 +120,78 @@ static void records(void)
            == QUIMDORAL_CLOSING_NAMED, "the closing contradicts");
 }
 
+/* A join of a record with a copy of itself changes nothing; in place, it would write to what it reads. */
+static void joined_with_itself(void)
+{
+    struct record {
+        uint64_t head[6];
+        uint8_t marks[2];
+        uint32_t elapsed[2];
+        uint16_t sizes[2];
+    };
+    const struct record held = {{7, 3, 0, 1, 2, 9}, {0, 1}, {0, 5}, {0, 4}};
+    struct record left = held;
+
+    expect(quimdoral_join(left.head, 6, left.marks, 2, left.elapsed, 2, left.sizes, 2,
+                          held.head, 6, held.marks, 2, held.elapsed, 2, held.sizes, 2) == 0, "a join with a copy");
+    expect(memcmp(left.head, held.head, sizeof held.head) == 0 && memcmp(left.marks, held.marks, sizeof held.marks) == 0
+           && memcmp(left.elapsed, held.elapsed, sizeof held.elapsed) == 0
+           && memcmp(left.sizes, held.sizes, sizeof held.sizes) == 0, "what a join with a copy left");
+}
+
+/* Any pointer stays as it is, and NULL becomes one that is not NULL and is aligned for every list. */
+static void lending(void)
+{
+    static uint8_t u8[1];
+    static uint16_t u16[1];
+    static uint32_t u32[1];
+    static uint64_t u64[1];
+
+    expect(quimdoral_lend_u8(u8) == u8 && quimdoral_lend_u16(u16) == u16 && quimdoral_lend_u32(u32) == u32
+           && quimdoral_lend_u64(u64) == u64, "what was lent stays");
+    expect(quimdoral_lend_const_u8(u8) == u8 && quimdoral_lend_const_u16(u16) == u16 && quimdoral_lend_const_u32(u32) == u32
+           && quimdoral_lend_const_u64(u64) == u64, "what was lent to be read stays");
+    expect(quimdoral_nothing() != NULL && (uintptr_t)quimdoral_nothing() % sizeof(uint64_t) == 0, "memory for nothing");
+    expect(quimdoral_lend_u8(NULL) == quimdoral_nothing() && quimdoral_lend_u16(NULL) == quimdoral_nothing()
+           && quimdoral_lend_u32(NULL) == quimdoral_nothing() && quimdoral_lend_u64(NULL) == quimdoral_nothing(), "nothing lent");
+    expect(quimdoral_lend_const_u8(NULL) == quimdoral_nothing() && quimdoral_lend_const_u16(NULL) == quimdoral_nothing()
+           && quimdoral_lend_const_u32(NULL) == quimdoral_nothing() && quimdoral_lend_const_u64(NULL) == quimdoral_nothing(),
+           "nothing lent to be read");
+}
+
+/* Calls with slices of nothing: no octets, no lengths, no frames, no state, and records of capacity 0. */
+static void nothing_lent(void)
+{
+    const uint8_t *octets = quimdoral_lend_const_u8(NULL);
+    const uint16_t *no_lengths = quimdoral_lend_const_u16(NULL);
+    uint64_t head[6], far_head[6], figures[7];
+    uint64_t *gap_octets = quimdoral_lend_u64(NULL);
+    uint32_t *elapsed = quimdoral_lend_u32(NULL), *firsts = elapsed;
+    uint16_t *sizes = quimdoral_lend_u16(NULL);
+    uint8_t *marks = quimdoral_lend_u8(NULL), *numbers = marks;
+    uint8_t out[32];
+
+    memset(out, 0xEE, sizeof out);
+    expect(quimdoral_header_check(octets, 0) == 0 && quimdoral_payload_check(octets, 0) == 0, "the checks of no octets");
+    expect(quimdoral_read_frame(octets, 0, gap_octets, 0) == QUIMDORAL_TOO_SHORT, "a frame of no octets");
+    expect(quimdoral_read_lengths(a, sizeof a, sizes, 0) == 0, "no lengths in A");
+    expect_frame(quimdoral_write_data(0, 0, 0, octets, 0, out, sizeof out), out, a, sizeof a, "A written with nothing");
+    expect(quimdoral_write_data(0, 0, 0, octets, 0, marks, 0) == QUIMDORAL_NO_ROOM, "A without room");
+    expect(QUIMDORAL_VALUE(quimdoral_write_closing_with_lengths(0, 0, 0, 0, 0, no_lengths, 0, out, sizeof out))
+           == QUIMDORAL_LENGTHS_SIZE(0u), "a closing with no lengths");
+    expect(quimdoral_sender_fresh(gap_octets, 0) == QUIMDORAL_NO_ROOM, "no state");
+    expect(quimdoral_fresh(7, 3, 0, head, 6, marks, 0, elapsed, 0, sizes, 0) == 0, "a record of capacity 0");
+    expect(quimdoral_hear(head, 6, marks, 0, elapsed, 0, sizes, 0, 7, 3, c, sizeof c) == QUIMDORAL_BEYOND_CAPACITY, "no place for C");
+    expect(quimdoral_hear_all(7, 3, 0, far_head, 6, marks, 0, elapsed, 0, sizes, 0, octets, 0, quimdoral_lend_const_u32(NULL), 0,
+                              numbers, 0) == 0, "no frames heard");
+    expect(quimdoral_join(head, 6, marks, 0, elapsed, 0, sizes, 0, far_head, 6, octets, 0, quimdoral_lend_const_u32(NULL), 0,
+                          no_lengths, 0) == 0, "two records of capacity 0");
+    expect(quimdoral_join(head, 6, marks, 0, elapsed, 0, sizes, 0, quimdoral_lend_const_u64(NULL), 0, octets, 0,
+                          quimdoral_lend_const_u32(NULL), 0, no_lengths, 0) == QUIMDORAL_CAPACITIES_DIFFER, "no head");
+    expect(quimdoral_report(head, 6, marks, 0, elapsed, 0, sizes, 0, firsts, 0, firsts, 0, gap_octets, 0, figures, 7) == 0
+           && figures[QUIMDORAL_FIGURE_SENT] == 0 && figures[QUIMDORAL_FIGURE_GAPS] == 0, "a report without gaps");
+}
+
 static void clock_calls(void)
 {
     expect(QUIMDORAL_VALUE(quimdoral_due(4294967290u, 10)) == 4, "example I, due");
@@ -137,6 +209,9 @@ int main(void)
     writing();
     sending();
     records();
+    joined_with_itself();
+    lending();
+    nothing_lent();
     clock_calls();
     return wrong;
 }

@@ -6,9 +6,11 @@
  * What every function keeps to:
  *
  * - It takes every input: any number, any octets, any content of lent memory. What it cannot use, it refuses.
- * - A slice is a pointer and the number of its elements. The pointer has to be aligned, valid for all the elements, and not NULL, also
- *   where the number is 0. This is the one thing that a caller has to see to, and the only one that nothing can check.
- * - Memory that a function writes to (a pointer without const) overlaps no other memory that is given to the same call.
+ * - A slice `x` is a pointer `x` and the number of its elements, `x_length`. The pointer has to be aligned, valid for all the elements, and
+ *   not NULL, also where the number is 0: where a pointer may be NULL, put quimdoral_lend_u8 or its like around it (below).
+ * - Memory that a function writes to (a pointer without const) overlaps no other memory that is given to the same call. So no record is
+ *   joined with itself in place: see quimdoral_join.
+ * - These two are what a caller has to see to, and the only things that nothing can check.
  * - Nothing is kept between calls, nothing is allocated, nothing is shared: calls may run at the same time on different memory.
  * - A refusal has a number of the table below. Where several apply, the first in the order that is given with each function is told.
  * - After a refusal no lent memory differs from what it held before the call. After a success only what is described as written differs;
@@ -32,6 +34,23 @@ extern "C" {
 /* The two parts of an answer with a value. */
 #define QUIMDORAL_REFUSAL(answer) ((unsigned)((answer) & 255u))
 #define QUIMDORAL_VALUE(answer) ((uint64_t)(answer) >> 8)
+
+/*
+ * Slices of nothing. Many callers in C give NULL and 0 where they have nothing; here that is an error, which no test in the library could
+ * find. Put one of these around a pointer that may be NULL: where it is, it becomes the address of memory that is there and aligned, and
+ * any other pointer stays as it is. The number has to be 0 there all the same, so that nothing is read or written behind the address:
+ *
+ *     quimdoral_write_data(stamp, number, elapsed, quimdoral_lend_const_u8(payload), payload_length, out, out_length)
+ */
+static inline void *quimdoral_nothing(void) { static uint64_t nothing; return &nothing; }
+static inline uint8_t *quimdoral_lend_u8(uint8_t *list) { return list ? list : (uint8_t *)quimdoral_nothing(); }
+static inline uint16_t *quimdoral_lend_u16(uint16_t *list) { return list ? list : (uint16_t *)quimdoral_nothing(); }
+static inline uint32_t *quimdoral_lend_u32(uint32_t *list) { return list ? list : (uint32_t *)quimdoral_nothing(); }
+static inline uint64_t *quimdoral_lend_u64(uint64_t *list) { return list ? list : (uint64_t *)quimdoral_nothing(); }
+static inline const uint8_t *quimdoral_lend_const_u8(const uint8_t *list) { return list ? list : (uint8_t *)quimdoral_nothing(); }
+static inline const uint16_t *quimdoral_lend_const_u16(const uint16_t *list) { return list ? list : (uint16_t *)quimdoral_nothing(); }
+static inline const uint32_t *quimdoral_lend_const_u32(const uint32_t *list) { return list ? list : (uint32_t *)quimdoral_nothing(); }
+static inline const uint64_t *quimdoral_lend_const_u64(const uint64_t *list) { return list ? list : (uint64_t *)quimdoral_nothing(); }
 
 /* Refusal numbers. */
 enum {
@@ -234,7 +253,10 @@ uint8_t quimdoral_hear_all(uint32_t bearer, uint32_t period, uint32_t stamp,
 
 /* quimdoral_join: adds to the left record what the right one heard. The right one, whose names begin with r_, is only read. Both are of one
  * sequence and capacity. Answers 0, or a refusal's number, in this order: 14, 13, 9, 11. With 11 the answer has a value: the lowest packet
- * number of the right record that alone contradicts the left, or QUIMDORAL_CLOSING_NAMED where only its closing does. */
+ * number of the right record that alone contradicts the left, or QUIMDORAL_CLOSING_NAMED where only its closing does.
+ *
+ * A record is not joined with itself in place: the lists that are written to would be those that are read. Such a join would change nothing,
+ * so leave it out; or copy the four lists, and give the copies as the right record. */
 #define QUIMDORAL_CLOSING_NAMED 65536u
 uint32_t quimdoral_join(uint64_t *head, size_t head_length, uint8_t *marks, size_t marks_length,
                         uint32_t *elapsed, size_t elapsed_length, uint16_t *sizes, size_t sizes_length,
