@@ -12,7 +12,10 @@ use std::fmt;
 /// assert_eq!((refusal, refusal.number()), (Refusal::TypeTwo, 2));
 /// assert_eq!(refusal.to_string(), "refusal 2: the frame is of Type 2, which M1 does not use");
 /// ```
+///
+/// Later versions may have more refusals, so a match outside of this crate needs an arm for the rest.
 #[derive(Clone, Copy, Debug, PartialEq, Eq, PartialOrd, Ord, Hash)]
+#[non_exhaustive]
 #[repr(u8)]
 pub enum Refusal {
     /// The frame is empty, or shorter than its type's least size.
@@ -66,9 +69,9 @@ pub enum Refusal {
 use Refusal::*;
 
 impl Refusal {
-    /// All refusals, by rising number.
+    /// All refusals, by rising number from 1 on.
     #[rustfmt::skip]
-    pub const ALL: [Refusal; 23] = [
+    pub const ALL: &'static [Refusal] = &[
         TooShort, TypeTwo, TypeUnknown, HeaderCheckWrong, StampTooHigh, SizeWrong, PayloadCheckWrong, CountsImpossible, OtherSequence,
         BeyondCapacity, Contradiction, NoRoom, RecordDamaged, CapacitiesDiffer, OutOfTurn, StampNotLater, SequenceFull, PeriodFull,
         OctetsFull, PayloadTooLong, SenderDamaged, LengthsWrong, PeriodOver,
@@ -80,12 +83,13 @@ impl Refusal {
         self as u8
     }
 
-    /// The refusal of a number from 1 to 23.
+    /// The refusal of a number, or nothing where no refusal has it.
     ///
     /// ```
     /// use quimdoral::Refusal;
+    /// assert_eq!(Refusal::from_number(1), Some(Refusal::TooShort));
     /// assert!(Refusal::ALL.iter().all(|refusal| Refusal::from_number(refusal.number()) == Some(*refusal)));
-    /// assert_eq!((Refusal::from_number(0), Refusal::from_number(24)), (None, None));
+    /// assert_eq!((Refusal::from_number(0), Refusal::from_number(255)), (None, None));
     /// ```
     #[inline]
     pub fn from_number(number: u8) -> Option<Refusal> {

@@ -134,8 +134,8 @@ fn refusals(text: &str) -> impl Iterator<Item = usize> + '_ {
 }
 
 /// The numbers of hearing are 1 to 11, 13 and 14. The last two are not to be had from an input: the record is the program's own, so
-/// nobody else damages it (13), and its lists have 4,096 places each (14). 12 is about lent output, of which hearing has none, and 15
-/// to 23 are the sender's, the writers' and the clock's.
+/// nobody else damages it (13), and its lists have 4,096 places each (14). 12 is about lent output, of which hearing has none, and those
+/// from 15 on are the sender's, the writers' and the clock's.
 #[test]
 fn samples_show_every_refusal_of_hearing() {
     let shown: BTreeSet<usize> = samples().iter().flat_map(|sample| refusals(&sample.text).collect::<Vec<_>>()).collect();
