@@ -9,7 +9,7 @@ use Rattle.checks.specs.Check.{divide, lowDigits, bitsOf, check}
 use Rattle.frame.specs.declared.DataPdu.{DataPdu}
 use Rattle.frame.specs.declared.ClosingPdu.{ClosingPdu}
 use Rattle.frame.specs.declared.Read.the-variants.{Closing, Data, ClosingWithLengths}
-use Rattle.frame.specs.Layout.{lengthAt, sumLengths}
+use Rattle.frame.specs.Layout.{payloadOf, lengthAt, sumLengths}
 use Rattle.frame.specs.Counts.{dataWrong, closingWrong, lengthsWrong}
 use Rattle.frame.specs.Reading.{refuse, readFrame, readHeaded, readBody}
 use Rattle.frame.specs.Writing.{dataFrame, closingFrame, lengthsFrame, packed}
@@ -31,7 +31,7 @@ unfolding octets divide lowDigits bitsOf check dataFrame
 A-written = refl
 
 A-read : readFrame A ≡ Data (first 0)
-unfolding be divide lowDigits bitsOf check readFrame readHeaded readBody dataWrong
+unfolding be divide lowDigits bitsOf check readFrame readHeaded readBody dataWrong payloadOf
 A-read = refl
 
 abbrev pub B : List ℕ
@@ -42,7 +42,7 @@ unfolding octets divide lowDigits bitsOf check dataFrame
 B-written = refl
 
 pub B-read : readFrame B ≡ Data (first 1)
-unfolding be divide lowDigits bitsOf check readFrame readHeaded readBody dataWrong
+unfolding be divide lowDigits bitsOf check readFrame readHeaded readBody dataWrong payloadOf
 B-read = refl
 
 abbrev pub C : List ℕ

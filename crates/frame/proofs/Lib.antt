@@ -5,6 +5,7 @@ pub mod LengthsBack
 pub mod NotJudged
 pub mod OnePaper
 pub mod OrderOfRefusals
+pub mod Payload
 pub mod ReadBack
 pub mod Said
 pub mod WhatWentIn

@@ -4,6 +4,7 @@ use mathlib.Core.List.{[], _∷_}
 use Rattle.units.specs.Refusals.{tooShort, typeTwo, headerCheckWrong, stampTooHigh, sizeWrong, payloadCheckWrong}
 use Rattle.fields.specs.Numbers.{be}
 use Rattle.checks.specs.Check.{divide, lowDigits, bitsOf, check}
+use Rattle.frame.specs.Layout.{payloadOf}
 use Rattle.frame.specs.Counts.{dataWrong, closingWrong}
 use Rattle.frame.specs.Reading.{refuse, readFrame, readHeaded, readBody}
 
@@ -34,5 +35,5 @@ size-before-payload = refl
 
 -- 7 before 8: a payload check that is wrong, and packet number 65,535
 payload-before-counts : readFrame (0x10 ∷ 0 ∷ 0 ∷ 0xFF ∷ 0xFF ∷ 0 ∷ 0 ∷ 0 ∷ 0 ∷ 0x1C ∷ 0x01 ∷ []) ≡ refuse payloadCheckWrong
-unfolding be divide lowDigits bitsOf check readFrame readHeaded readBody dataWrong
+unfolding be divide lowDigits bitsOf check readFrame readHeaded readBody dataWrong payloadOf
 payload-before-counts = refl

@@ -15,7 +15,7 @@ use Rattle.checks.proofs.Rows.{check-lt}
 use Rattle.checks.proofs.ShortSums.{header, payload}
 use Rattle.frame.specs.declared.ClosingPdu.{ClosingPdu}
 use Rattle.frame.specs.declared.Read.the-variants.{Closing, Data}
-use Rattle.frame.specs.Layout.{stampOf, numberOf, elapsedOf, closingOf}
+use Rattle.frame.specs.Layout.{stampOf, numberOf, elapsedOf, payloadOf, closingOf}
 use Rattle.frame.specs.Counts.{dataWrong}
 use Rattle.frame.specs.Reading.{readFrame, headerWrong, payloadWrong}
 use Rattle.frame.specs.Writing.{controlPart, closingControl, sealed, dataFrame, closingFrame}
@@ -67,6 +67,11 @@ module _ (stamp n e : ℕ) (p : List ℕ) (st : stamp ≤ lastStamp) (sz : lengt
   unfolding octets dataFrame
   data-elapsed = be-at 4 e (octets 1 16 ++ octets 2 stamp ++ octets 2 n) (octets 2 (both (controlPart 1 stamp n e) p) ++ p) (omega (arith, data-right n e w))
 
+  -- a data frame gives back its payload
+  pub payload-back : payloadOf s ≡ p
+  unfolding octets dataFrame payloadOf
+  payload-back = refl
+
   data-good : Good s
   unfolding octets dataFrame
   data-good =
@@ -77,22 +82,16 @@ module _ (stamp n e : ℕ) (p : List ℕ) (st : stamp ≤ lastStamp) (sz : lengt
         long = omega arith;
         headed = sealed-headed (controlPart 1 stamp n e) p 9 refl;
         stamped = rw data-stamp st;
-        sized = le-ltb mostPayload (length s - 11) (omega arith);
+        sized = rw payload-back (le-ltb mostPayload (length p) sz);
         checked = sealed-checked (controlPart 1 stamp n e) p 9 refl;
         counted = rw (data-number, data-elapsed) w;
       }
 
-  -- a data frame gives back the fields that it was written from, and its payload's length
+  -- and the fields that it was written from, and its payload's length
   pub data-back : readFrame s ≡ Data (record { stamp = stamp; number = record { 0 = n }; elapsed = record { 0 = e }; length = record { 0 = length p } })
   unfolding octets dataFrame
   data-back =
-      let l : length s - 11 ≡ length p = omega arith in
-      read-good s data-good ∙ rw (data-stamp, data-number, data-elapsed, l)
-
-  -- and its payload
-  pub payload-back : drop 11 s ≡ p
-  unfolding octets dataFrame
-  payload-back = refl
+      read-good s data-good ∙ rw (data-stamp, data-number, data-elapsed, payload-back)
 
 -- Types 0 and 3: the fields of a closing control part, whatever stands behind it
 

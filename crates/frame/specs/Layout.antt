@@ -1,6 +1,6 @@
 -- Where each field of a frame stands (document 01, "Frame layouts"; TS 25.446, 5.5.2 and 5.5.3). A frame is a list of octets.
 -- Assumes nothing.
-use Prim.Native.Nat.{ℕ, zero, suc, _+_, _-_, _*_, _/_, _%_}
+use Prim.Native.Nat.{ℕ, zero, suc, _+_, _*_, _/_, _%_}
 use mathlib.Core.List.{List, [], _∷_}
 use lib.ListN.{length, getD, drop}
 use Rattle.fields.specs.Numbers.{be}
@@ -56,8 +56,12 @@ abbrev pub payloadPart : ℕ → List ℕ → List ℕ
 payloadPart n s = drop (n + 2) s
 
 -- "In Type 1 everything after the checks is payload, from the frame's twelfth octet to its end"
+unfoldable pub payloadOf : List ℕ → List ℕ
+payloadOf s = payloadPart 9 s
+
+-- the length that is recorded is that of the payload which is handed on
 abbrev pub payloadLength : List ℕ → ℕ
-payloadLength s = length s - 11
+payloadLength s = length (payloadOf s)
 
 -- the upper 12 bits of two octets, or the lower
 abbrev pub upperOrLower : ℕ → ℕ → ℕ

@@ -60,7 +60,7 @@ fn read_data(frame: &[u8]) -> Read
             number: PAYLOAD_CHECK_WRONG,
         });
     }
-    let d = data_of(frame);
+    let d = data_of(frame, payload);
     if counts::data_wrong(d.number, d.elapsed) {
         return Read::Refused(Refusal {
             number: COUNTS_IMPOSSIBLE,

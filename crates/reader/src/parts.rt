@@ -6,7 +6,7 @@ use units::Packets;
 ghost use mathlib.Core.Path.{_≡_};
 ghost use Prim.Native.Nat.{_+_, _≤_, _<_};
 ghost use lib.ListN.{length, drop};
-ghost use Rattle.frame.specs.Layout.{control, least, dataOf, closingOf};
+ghost use Rattle.frame.specs.Layout.{control, least, payloadOf, dataOf, closingOf};
 ghost use Rattle.frame.specs.Reading.{headerWrong, payloadWrong};
 
 pub fn control_of(kind: u8) -> usize
@@ -41,15 +41,16 @@ pub fn payload_wrong(frame: &[u8], n: usize, part: &[u8]) -> bool
     checks::payload_check(part) as u64 != given
 }
 
-pub fn data_of(frame: &[u8]) -> DataPdu
-    requires { ⌜ 11 ≤ length (now frame) ⌝ }
+// The length that is recorded is that of the payload which is handed on.
+pub fn data_of(frame: &[u8], payload: &[u8]) -> DataPdu
+    requires { ⌜ (11 ≤ length (now frame)) × (now payload ≡ payloadOf (now frame)) ⌝ }
     ensures { λ r. ⌜ r ≡ dataOf (now (frame .entry)) ⌝ }
 {
     DataPdu {
         stamp: fields::field(frame, 1, 2) as u32,
         number: Packets(fields::field(frame, 3, 2) as u32),
         elapsed: Octets(fields::field(frame, 5, 4)),
-        length: Octets((frame.len() - 11) as u64),
+        length: Octets(payload.len() as u64),
     }
 }
 

@@ -1,15 +1,16 @@
 -- `reader::read_data` meets its contract. Assumes nothing.
 use mathlib.Core.Path.{_≡_, sym, ap, _∙_}
 use mathlib.Core.Bool.{true, false}
-use Prim.Native.Nat.{_-_, _<_, _≤_}
-use lib.ListN.{length}
+use Prim.Native.Nat.{_<_, _≤_}
 use borrow.Author.Tests.{lt-ltb, le-ltb}
 use denote.Ref.{now}
+use Rattle.units.specs.Limits.{mostPayload}
 use Rattle.fields.proofs.Laying.{to-end}
 use Rattle.frame.specs.declared.DataPdu.{DataPdu}
-use Rattle.frame.specs.Layout.{numberOf, elapsedOf}
+use Rattle.frame.specs.Layout.{numberOf, elapsedOf, payloadLength}
 use Rattle.frame.specs.Counts.{dataWrong}
 use Rattle.frame.specs.Reading.{readBody, payloadWrong}
+use Rattle.frame.proofs.Payload.{part-payload, payload-length}
 use native.Mathlib.Omega.{arith}
 use borrow.Author.Needs.{needs}
 use Rattle.reader.proofs.read_data.Statement.{statement}
@@ -28,7 +29,7 @@ returns : tie.Need-returns
 unfolding readBody
 returns c =
     let s = now (c .before .before .before .args .frame) in
-    let h : 4095 < length s - 11 = omega arith in
+    let h : mostPayload < payloadLength s = omega (arith, payload-length s) in
     simp (lt-ltb _ _ h)
 
 payload-wrong-requires : tie.Need-payload-wrong-requires
@@ -38,12 +39,12 @@ returns-2 : tie.Need-returns-2
 unfolding readBody
 returns-2 c =
     let s = now (c .before .before .before .before .before .args .frame) in
-    let h : length s - 11 ≤ 4095 = omega arith in
+    let h : payloadLength s ≤ mostPayload = omega (arith, payload-length s) in
     let p : payloadWrong 9 s ≡ true = sym (c .before .payload-wrong .ensures) ∙ c .if2 .taken in
     simp (le-ltb _ _ h, p)
 
 data-of-requires : tie.Need-data-of-requires
-data-of-requires c κs = search needs
+data-of-requires c κs = (omega arith, part-payload (now (c .before .before .before .before .before .args .frame)))
 
 data-wrong-requires : tie.Need-data-wrong-requires
 data-wrong-requires c κs = search needs
@@ -57,7 +58,7 @@ returns-3 : tie.Need-returns-3
 unfolding readBody
 returns-3 c =
     let s = now (c .before .before .before .before .before .before .before .before .args .frame) in
-    let h : length s - 11 ≤ 4095 = omega arith in
+    let h : payloadLength s ≤ mostPayload = omega (arith, payload-length s) in
     let p : payloadWrong 9 s ≡ false = sym (c .before .before .before .before .payload-wrong .ensures) ∙ c .before .before .before .if2 .left in
     let w : dataWrong (numberOf s) (elapsedOf s) ≡ true = judged (c .before) ∙ c .if3 .taken in
     simp (le-ltb _ _ h, p, w)
@@ -66,7 +67,7 @@ returns-4 : tie.Need-returns-4
 unfolding readBody
 returns-4 c =
     let s = now (c .before .before .before .before .before .before .before .before .args .frame) in
-    let h : length s - 11 ≤ 4095 = omega arith in
+    let h : payloadLength s ≤ mostPayload = omega (arith, payload-length s) in
     let p : payloadWrong 9 s ≡ false = sym (c .before .before .before .before .payload-wrong .ensures) ∙ c .before .before .before .if2 .left in
     let w : dataWrong (numberOf s) (elapsedOf s) ≡ false = judged (c .before) ∙ c .if3 .left in
     simp (le-ltb _ _ h, p, w, c .before .before .data-of .ensures)
