@@ -8,6 +8,7 @@ use Rattle.fields.specs.Numbers.{be, octets}
 use Rattle.checks.specs.Check.{divide, lowDigits, bitsOf, check}
 use Rattle.frame.specs.Counts.{someOf, dataWrong}
 use Rattle.frame.specs.Paper.{ReadPaper, CountPaper, readPaper, writtenPaper}
+use Rattle.frame.specs.Layout.{payloadOf}
 use Rattle.frame.specs.Reading.{readFrame, readHeaded, readBody}
 use Rattle.frame.specs.Writing.{dataFrame, writeData}
 use Rattle.reception.specs.Adding.{packetContradicts, closingContradicts}
@@ -23,16 +24,16 @@ use Rattle.demands.specs.ShutOut.{ShutOut}
 
 -- B is accepted
 B-kind : readPaper (readFrame B) .kind ≡ 2
-unfolding be divide lowDigits bitsOf check readPaper readFrame readHeaded readBody dataWrong
+unfolding be divide lowDigits bitsOf check readPaper readFrame readHeaded readBody payloadOf dataWrong
 B-kind = refl
 
 -- A and B say other lengths
 A-payload : readPaper (readFrame A) .payload ≡ 0
-unfolding be divide lowDigits bitsOf check readPaper readFrame readHeaded readBody dataWrong
+unfolding be divide lowDigits bitsOf check readPaper readFrame readHeaded readBody payloadOf dataWrong
 A-payload = refl
 
 B-payload : readPaper (readFrame B) .payload ≡ 1
-unfolding be divide lowDigits bitsOf check readPaper readFrame readHeaded readBody dataWrong
+unfolding be divide lowDigits bitsOf check readPaper readFrame readHeaded readBody payloadOf dataWrong
 B-payload = refl
 
 -- A can be written
@@ -57,7 +58,7 @@ abbrev second : List ℕ
 second = dataFrame 0 1 1 (9 ∷ [])
 
 second-heard : getD (hearFrame afterB 7 3 second .kept .marks) 1 0 ≡ 1
-unfolding be octets divide lowDigits bitsOf check readFrame readHeaded readBody dataWrong dataFrame someOf reach fits mayEnd walk isExplained packetContradicts placeWrong placesWrong closingOff walkFails damagedRecord listsDiffer otherKey hearPacket hearRead hearFrame
+unfolding be octets divide lowDigits bitsOf check readFrame readHeaded readBody payloadOf dataWrong dataFrame someOf reach fits mayEnd walk isExplained packetContradicts placeWrong placesWrong closingOff walkFails damagedRecord listsDiffer otherKey hearPacket hearRead hearFrame
 second-heard = refl
 
 different : {m n : ℕ} → m ≡ n → m ≡ 0 → n ≡ 1 → ⊥
