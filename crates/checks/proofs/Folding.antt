@@ -3,11 +3,11 @@
 use mathlib.Core.Path.{_≡_, refl, sym, ap, ap₂, _∙_, subst}
 use mathlib.Core.List.{List, [], _∷_, _++_}
 use Prim.Native.Nat.{ℕ, zero, suc, _+_, _-_, _*_, _/_, _%_, _^_, _<_, _≤_}
-use native.Mathlib.Nat.{mod-lt, mod-le, mod-eq-of-lt, one-mul, add-zero, add-comm, add-suc, zero-add, pow-suc, div-eq-of-lt, lt-of-le-of-lt, lt-of-lt-of-le, div-mul-le-self}
+use native.Mathlib.Nat.{mod-lt, mod-le, add-zero, add-comm, add-suc, zero-add, pow-suc, div-eq-of-lt, lt-of-le-of-lt, lt-of-lt-of-le, div-mul-le-self}
 use native.Mathlib.Omega.{arith}
 use lib.Arith.{digits-div}
-use lib.Pow.{pow-pos, pow-add, pow-mono, pow-lt, split, shl-lt, shr-lt, shl-shr, shr-shr}
-use lib.Bits.{bitXor, bitAnd, and-mask, xor-shifted, xor-lt, xor-zero-r, xor-comm}
+use lib.Pow.{pow-pos, pow-add, pow-mono, split, shl-lt, shr-lt, shl-shr, shr-shr}
+use lib.Bits.{bitXor, xor-shifted, xor-lt, xor-zero-r, xor-comm}
 use lib.ListN.{length, getD}
 use Rattle.fields.specs.Numbers.{be}
 use Rattle.fields.proofs.ReadAgain.{be-lt}
@@ -34,16 +34,6 @@ out : (a b x : ℕ) → b + a ≡ 64 → x * 2 ^ a / 2 ^ 64 ≡ x / 2 ^ b
 out a b x e =
     ap (λ (n : ℕ). x * 2 ^ a / 2 ^ n) (sym e ∙ add-comm b a) ∙ sym (shr-shr (x * 2 ^ a) a b)
     ∙ ap (λ (y : ℕ). y / 2 ^ b) (shl-shr x a)
-
--- a mask of the n low digits, as the code makes it: its bound, and the bridge from the mask to the remainder
-unit : (n : ℕ) → n < 64 → 1 * 2 ^ n % 2 ^ 64 ≡ 2 ^ n
-unit n h = ap (λ (m : ℕ). m % 2 ^ 64) (one-mul (2 ^ n)) ∙ mod-eq-of-lt (pow-lt h)
-
-pub unit-one : (n : ℕ) → n < 64 → 1 ≤ 1 * 2 ^ n % 2 ^ 64
-unit-one n h = rw (unit n h) (pow-pos n)
-
-pub masked : (x n : ℕ) → n < 64 → bitAnd x (1 * 2 ^ n % 2 ^ 64 - 1) ≡ x % 2 ^ n
-masked x n h = ap (λ (m : ℕ). bitAnd x (m - 1)) (unit n h) ∙ and-mask x n
 
 -- a word that is reduced is shorter
 pub reduced-lt : (n a b c x m u : ℕ) → x < 2 ^ (m + n) → n ≤ u → m + a ≤ u → m + b ≤ u → m + c ≤ u

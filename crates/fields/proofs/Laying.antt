@@ -1,17 +1,31 @@
 -- Runs laid into lent memory, one behind the other. Assumes nothing.
 use Prim.Native.Nat.{ℕ, suc, _+_, _-_, _/_, _%_, _<_, _≤_}
 use native.Mathlib.Nat.{zero-add, add-zero, lt-suc-self, add-assoc}
+use native.Mathlib.Numerals.{add-one, add-two}
 use native.Mathlib.Omega.{arith}
 use mathlib.Core.Path.{_≡_, ap, sym, _∙_}
 use mathlib.Core.List.{List, [], _∷_, _++_, append-assoc, append-nil}
 use lib.ListN.{length, take, drop, set, length-append, take-append-drop, length-drop}
-use lib.Seq.{append-snoc, take-at, drop-at, drop-append-add, drop-drop, take-take, drop-cons, getD-set-same, drop-set-lt, lt-length-set, length-take-le, take-all}
+use lib.Seq.{append-snoc, take-at, drop-at, drop-append-add, drop-drop, take-take, drop-cons, getD-set-same, drop-set-lt, lt-length-set, length-take-le, take-all, sets-eq}
 use Rattle.fields.specs.Numbers.{octets}
 use Rattle.fields.specs.Runs.{laid, front}
 
 pub laid-none : (old : List ℕ) (at : ℕ) → laid old at [] ≡ old
 unfolding laid
 laid-none old at = rw (add-zero, append-nil) (take-append-drop at old)
+
+-- octets that are stored one after the other are a run that is laid
+pub stored : (old : List ℕ) (at a : ℕ) → at < length old → set old at a ≡ laid old at (a ∷ [])
+unfolding laid
+stored old at a h = sets-eq (a ∷ []) old at (omega arith)
+
+pub stored-two : (old : List ℕ) (at a b : ℕ) → at + 2 ≤ length old → set (set old at a) (at + 1) b ≡ laid old at (a ∷ b ∷ [])
+unfolding laid
+stored-two old at a b h = rw (add-one at) (sets-eq (a ∷ b ∷ []) old at h)
+
+pub stored-three : (old : List ℕ) (at a b c : ℕ) → at + 3 ≤ length old → set (set (set old at a) (at + 1) b) (at + 2) c ≡ laid old at (a ∷ b ∷ c ∷ [])
+unfolding laid
+stored-three old at a b c h = rw (add-one at, add-two at) (sets-eq (a ∷ b ∷ c ∷ []) old at h)
 
 pub laid-first : (old xs : List ℕ) → laid old 0 xs ≡ front old xs
 unfolding laid front

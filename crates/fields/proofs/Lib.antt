@@ -2,4 +2,5 @@ pub mod Choosing
 pub mod Counting
 pub mod Laying
 pub mod ReadAgain
+pub mod ShiftsAndMasks
 pub mod Tests

@@ -1,7 +1,7 @@
 -- Numbers in octets, at every width: what is written is read again, what is read is written again, and what w octets hold is
 -- below 256 ^ w. Assumes nothing.
 use Prim.Native.Nat.{ℕ, zero, suc, _+_, _*_, _/_, _%_, _^_, _<_, _≤_}
-use native.Mathlib.Nat.{pow-suc, pow-le-pow-right, add-assoc}
+use native.Mathlib.Nat.{pow-suc, pow-le-pow-right, add-assoc, add-zero, zero-mul, zero-add}
 use native.Mathlib.Numerals.{add-one}
 use native.Mathlib.Omega.{arith}
 use mathlib.Core.Path.{_≡_, refl, _∙_}
@@ -9,6 +9,19 @@ use mathlib.Core.List.{List, [], _∷_, _++_, append-assoc}
 use lib.ListN.{length, getD, take, drop, length-append, length-drop}
 use lib.Seq.{getD-append-add, getD-at, take-suc, getD-drop}
 use Rattle.fields.specs.Numbers.{be, octets}
+
+-- few octets, written out
+pub be-one : (s : List ℕ) (i : ℕ) → be 1 s i ≡ getD s i 0
+unfolding be
+be-one s i = rw (add-zero, zero-mul, zero-add)
+
+pub be-two : (s : List ℕ) (i : ℕ) → be 2 s i ≡ getD s i 0 * 256 + getD s (i + 1) 0
+unfolding be
+be-two s i = rw (add-zero, zero-mul, zero-add)
+
+pub be-three : (s : List ℕ) (i : ℕ) → be 3 s i ≡ (getD s i 0 * 256 + getD s (i + 1) 0) * 256 + getD s (i + 2) 0
+unfolding be
+be-three s i = rw (add-zero, zero-mul, zero-add)
 
 -- an octet behind a number below 256 ^ k makes one below 256 ^ suc k
 pub octet-behind : (k v b : ℕ) → v < 256 ^ k → b < 256 → v * 256 + b < 256 ^ suc k

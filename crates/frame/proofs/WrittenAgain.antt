@@ -4,14 +4,14 @@ use Prim.Native.Nat.{ℕ, zero, suc, _+_, _*_, _/_, _%_, _≤_, _<_}
 use mathlib.Core.Path.{_≡_, refl, sym, ap, _∙_}
 use mathlib.Core.List.{List, _++_}
 use mathlib.Core.Bool.{false, not}
-use native.Mathlib.Nat.{add-assoc, add-zero, zero-mul, zero-add}
+use native.Mathlib.Nat.{add-assoc}
 use native.Mathlib.Omega.{arith}
 use lib.ListN.{length, getD, take, drop, take-append-drop, length-drop}
 use lib.Seq.{take-add, drop-drop, take-all}
 use lib.Dec.{eqb}
 use borrow.Author.Tests.{eqb-true, not-false}
 use Rattle.fields.specs.Numbers.{be, octets}
-use Rattle.fields.proofs.ReadAgain.{octets-be}
+use Rattle.fields.proofs.ReadAgain.{be-one, be-two, be-three, octets-be}
 use Rattle.checks.specs.Check.{headerCheck, payloadCheck}
 use Rattle.frame.specs.declared.DataPdu.{DataPdu}
 use Rattle.frame.specs.declared.ClosingPdu.{ClosingPdu}
@@ -32,18 +32,6 @@ equal a b e = eqb-true a b (not-false (eqb a b) e)
 -- the next part of a list behind a first part
 take-then : (s : List ℕ) (n m : ℕ) → take n s ++ take m (drop n s) ≡ take (n + m) s
 take-then s n m = sym (take-add n m s)
-
-be-one : (s : List ℕ) (i : ℕ) → be 1 s i ≡ getD s i 0
-unfolding be
-be-one s i = rw (add-zero, zero-mul, zero-add)
-
-be-two : (s : List ℕ) (i : ℕ) → be 2 s i ≡ getD s i 0 * 256 + getD s (i + 1) 0
-unfolding be
-be-two s i = rw (add-zero, zero-mul, zero-add)
-
-be-three : (s : List ℕ) (i : ℕ) → be 3 s i ≡ (getD s i 0 * 256 + getD s (i + 1) 0) * 256 + getD s (i + 2) 0
-unfolding be
-be-three s i = rw (add-zero, zero-mul, zero-add)
 
 module _ (s : List ℕ) (p : Plain s) where
   -- the control part that all types have

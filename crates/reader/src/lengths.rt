@@ -19,8 +19,13 @@ fn length_at(frame: &[u8], i: usize) -> u64
     requires { ⌜ (i < 65536) × (19 + 3 * i / 2 + 2 ≤ length (now frame)) ⌝ }
     ensures { λ r. ⌜ (r ≡ lengthAt (now (frame .entry)) i) × (r < 4096) ⌝ }
 {
-    let two = fields::field(frame, 19 + 3 * i / 2, 2);
-    if i % 2 == 0 { two >> 4 } else { two & 4095 }
+    let at = 19 + 3 * i / 2;
+    let upper = frame[at] as u64;
+    let lower = frame[at + 1] as u64;
+    if i % 2 == 0 {
+        return (upper << 4) | (lower >> 4);
+    }
+    ((upper & 15) << 8) | lower
 }
 
 fn sum_lengths(frame: &[u8], n: usize) -> u64

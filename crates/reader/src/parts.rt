@@ -37,8 +37,8 @@ pub fn payload_wrong(frame: &[u8], n: usize, part: &[u8]) -> bool
     requires { ⌜ (n + 2 ≤ length (now frame)) × (now part ≡ drop (n + 2) (now frame)) ⌝ }
     ensures { λ r. ⌜ r ≡ payloadWrong n (now (frame .entry)) ⌝ }
 {
-    let given = fields::field(frame, n, 2) & 1023;
-    checks::payload_check(part) as u64 != given
+    let given = (((frame[n] & 3) as u16) << 8) | (frame[n + 1] as u16);
+    checks::payload_check(part) != given
 }
 
 // The length that is recorded is that of the payload which is handed on.

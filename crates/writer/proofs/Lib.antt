@@ -1,3 +1,3 @@
 pub mod Answering
-pub mod Beside
+pub mod Packed
 pub mod Sealing

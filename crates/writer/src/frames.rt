@@ -41,7 +41,7 @@ pub fn put_closing(c: ClosingPdu, out: &mut [u8])
 {
     put_closing_control(out, 0, c);
     let header = checks::header_check(&out[..17]);
-    fields::put(out, 17, 1, (header << 2) as u64);
+    out[17] = header << 2;
 }
 
 // A Type 3 frame.

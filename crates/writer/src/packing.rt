@@ -1,32 +1,39 @@
-// Values of fewer bits than their octets have, packed by shifts.
+// Values of fewer bits than their octets have, packed by shifts and masks, octet by octet.
 ghost use mathlib.Core.Path.{_≡_};
 ghost use Prim.Native.Nat.{_+_, _*_, _≤_, _<_};
+ghost use lib.ListN.{length};
+ghost use Rattle.fields.specs.Numbers.{octets};
 ghost use Rattle.fields.specs.Runs.{laid};
 ghost use Rattle.frame.specs.Layout.{filled};
 ghost use Rattle.frame.specs.Writing.{packed};
 ghost use Rattle.writer.specs.Room.{LengthsFit};
 
-// Six bits of header check and ten of payload check.
-pub fn both_checks(header: u8, check: u16) -> u64
-    requires { ⌜ check < 1024 ⌝ }
-    ensures { λ r. ⌜ r ≡ header * 1024 + check ⌝ }
+// Both checks in two octets: six bits of header check and then ten of payload check.
+pub fn put_both(out: &mut [u8], at: usize, header: u8, check: u16)
+    requires { ⌜ (check < 1024) × (at + 2 ≤ length (now out)) ⌝ }
+    ensures { λ _. ⌜ now (out .exit) ≡ laid (now (out .entry)) at (octets 2 (header * 1024 + check)) ⌝ }
 {
-    ((header as u64) << 10) | (check as u64)
+    out[at] = (header << 2) | (check >> 8) as u8;
+    out[at + 1] = (check & 255) as u8;
 }
 
-// Two lengths of 12 bits.
-fn two_lengths(a: u16, b: u16) -> u64
-    requires { ⌜ b ≤ 4095 ⌝ }
-    ensures { λ r. ⌜ r ≡ a * 4096 + b ⌝ }
+// Two lengths of 12 bits in three octets.
+fn put_two(out: &mut [u8], at: usize, a: u16, b: u16)
+    requires { ⌜ (a ≤ 4095) × (b ≤ 4095) × (at + 3 ≤ length (now out)) ⌝ }
+    ensures { λ _. ⌜ now (out .exit) ≡ laid (now (out .entry)) at (octets 3 (a * 4096 + b)) ⌝ }
 {
-    ((a as u64) << 12) | (b as u64)
+    out[at] = (a >> 4) as u8;
+    out[at + 1] = (((a & 15) << 4) | (b >> 8)) as u8;
+    out[at + 2] = (b & 255) as u8;
 }
 
-// A last length alone, and four padding bits.
-fn one_length(a: u16) -> u64
-    ensures { λ r. ⌜ r ≡ a * 16 ⌝ }
+// A last length in two octets: its 12 bits, and four padding bits.
+fn put_one(out: &mut [u8], at: usize, a: u16)
+    requires { ⌜ (a ≤ 4095) × (at + 2 ≤ length (now out)) ⌝ }
+    ensures { λ _. ⌜ now (out .exit) ≡ laid (now (out .entry)) at (octets 2 (a * 16)) ⌝ }
 {
-    (a as u64) << 4
+    out[at] = (a >> 4) as u8;
+    out[at + 1] = ((a & 15) << 4) as u8;
 }
 
 // How many octets n lengths fill.
@@ -45,11 +52,11 @@ pub fn put_lengths(lengths: &[u16], out: &mut [u8])
     let mut i: usize = 0;
     let mut at: usize = 19;
     while 1 < lengths.len() - i {
-        fields::put(out, at, 3, two_lengths(lengths[i], lengths[i + 1]));
+        put_two(out, at, lengths[i], lengths[i + 1]);
         i += 2;
         at += 3;
     }
     if i < lengths.len() {
-        fields::put(out, at, 2, one_length(lengths[i]));
+        put_one(out, at, lengths[i]);
     }
 }

@@ -6,7 +6,7 @@ ghost use Rattle.fields.specs.Numbers.{octets};
 ghost use Rattle.fields.specs.Runs.{laid, front};
 ghost use Rattle.checks.specs.Check.{headerCheck};
 ghost use Rattle.frame.specs.Writing.{controlPart, closingControl};
-use crate::packing::both_checks;
+use crate::packing::put_both;
 use frame::ClosingPdu;
 use units::Octets;
 use units::Packets;
@@ -38,5 +38,5 @@ pub fn put_checks(out: &mut [u8], n: usize, check: u16)
     ensures { λ _. ⌜ now (out .exit) ≡ laid (now (out .entry)) n (octets 2 (headerCheck (take n (now (out .entry))) * 1024 + check)) ⌝ }
 {
     let header = checks::header_check(&out[..n]);
-    fields::put(out, n, 2, both_checks(header, check));
+    put_both(out, n, header, check);
 }

@@ -4,8 +4,9 @@ use mathlib.Core.Path.{sym, ap, subst, _∙_}
 use Prim.Native.Nat.{ℕ, _%_, _^_, _<_}
 use native.Mathlib.Omega.{arith}
 use lib.Bits.{bitXor}
+use Rattle.fields.proofs.ShiftsAndMasks.{masked, unit-one}
 use Rattle.checks.specs.Inside.{exponents, leaves}
-use Rattle.checks.proofs.Folding.{reduced, reduced-lt, masked, unit-one, within-three}
+use Rattle.checks.proofs.Folding.{reduced, reduced-lt, within-three}
 use Rattle.checks.proofs.words.reduce.Statement.{statement}
 use Rattle.checks.proofs.words.reduce.Tie as tie
 
@@ -19,14 +20,14 @@ shl-result : tie.Need-shl-result
 shl-result c = search needs
 
 sub-result : tie.Need-sub-result
-sub-result c = unit-one (c .before .args .n) (c .before .pre .0)
+sub-result c = unit-one 64 (c .before .args .n) (c .before .pre .0)
 
 returns : tie.Need-returns
 returns c =
     let a = c .before .args in
     let p = c .before .pre in
     let es = exponents (a .by) in
-    let e = ap (bitXor (c .shifted-up .result)) (masked (a .x) (a .n) (p .0)) ∙ ap (λ (m : ℕ). bitXor m (a .x % 2 ^ a .n)) (c .shifted-up .ensures) in
+    let e = ap (bitXor (c .shifted-up .result)) (masked 64 (a .x) (a .n) (p .0)) ∙ ap (λ (m : ℕ). bitXor m (a .x % 2 ^ a .n)) (c .shifted-up .ensures) in
     record {
       same = λ G d.
           ap (leaves _ _) e

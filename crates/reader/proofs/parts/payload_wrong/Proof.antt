@@ -1,21 +1,49 @@
--- `reader::parts::payload_wrong` meets its contract: the mask keeps ten bits. Assumes nothing.
-use lib.Bits.{and-mask}
+-- `reader::parts::payload_wrong` meets its contract: ten bits of two octets. Assumes nothing.
+use Prim.Native.Nat.{_+_}
+use lib.Bits.{mask-lt}
+use lib.ListN.{getD}
+use denote.Ref.{now}
+use Rattle.fields.proofs.ReadAgain.{be-two}
+use Rattle.fields.proofs.ShiftsAndMasks.{low-bits}
+use native.Mathlib.Omega.{arith}
 use borrow.Author.Needs.{needs}
 use Rattle.reader.proofs.parts.payload_wrong.Statement.{statement}
 use Rattle.reader.proofs.parts.payload_wrong.Tie as tie
 
-field-requires : tie.Need-field-requires
-field-requires c κs = search needs
+shared-slice-read-given : tie.Need-shared-slice-read-given
+shared-slice-read-given c = search needs
+
+cast-given : tie.Need-cast-given
+cast-given c = omega (arith, mask-lt (getD (now (c .before .before .before .args .frame)) (c .before .before .before .args .n) 0) 2)
+
+add-given : tie.Need-add-given
+add-given c = search needs
+
+shared-slice-read-given-2 : tie.Need-shared-slice-read-given-2
+shared-slice-read-given-2 c = search needs
+
+cast-given-2 : tie.Need-cast-given-2
+cast-given-2 c = omega (arith, c .shared-slice-known4 .given (c .before .before .before .before .args .n + 1))
 
 payload-check-requires : tie.Need-payload-check-requires
 payload-check-requires c κs = search needs
 
-cast-result : tie.Need-cast-result
-cast-result c = search needs
-
 returns : tie.Need-returns
 returns c =
-    rw (c .payload-check .ensures, c .before .before .before .before .pre .1, and-mask (c .before .field .result) 10, c .before .field .ensures .0)
+    let a = c .before .before .before .before .before .args in
+    let s = now (a .frame) in
+    let o = c .before .shared-slice-known4 .given (a .n + 1) in
+    let v = low-bits 16 2 (getD s (a .n) 0) (getD s (a .n + 1) 0) (omega arith) (omega (arith, o)) in
+    rw (c .payload-check .ensures, c .before .before .before .before .before .pre .1, v, be-two s (a .n))
 
 pub payload-wrong-spec : {M : Type 1} → statement M
-payload-wrong-spec = tie.close (tie.spec field-requires payload-check-requires cast-result returns)
+payload-wrong-spec =
+    tie.close
+    (tie.spec
+    shared-slice-read-given
+    cast-given
+    add-given
+    shared-slice-read-given-2
+    cast-given-2
+    payload-check-requires
+    returns)

@@ -2,11 +2,11 @@
 use mathlib.Core.Path.{_≡_, refl, sym, ap, _∙_}
 use Prim.Native.Nat.{_*_, _%_}
 use native.Mathlib.Omega.{arith}
-use lib.ListN.{take}
+use lib.ListN.{take, length-set}
 use lib.Seq.{length-take-le}
 use denote.Ref.{now}
 use Rattle.fields.specs.Numbers.{octets}
-use Rattle.fields.proofs.Laying.{laid-on, take-front}
+use Rattle.fields.proofs.Laying.{laid-on, stored, take-front}
 use Rattle.checks.specs.Check.{headerCheck}
 use Rattle.checks.proofs.Rows.{check-lt}
 use Rattle.checks.proofs.ShortSums.{header}
@@ -26,25 +26,23 @@ slice-aggregate-header-check c = sym (length-take-le 17 (c .before .before .befo
 header-check-requires : tie.Need-header-check-requires
 header-check-requires c κs = omega arith
 
-cast-put : tie.Need-cast-put
-cast-put c = omega arith
-
-put-requires : tie.Need-put-requires
-put-requires c κs = omega arith
+slice-write-out : tie.Need-slice-write-out
+slice-write-out c = omega arith
 
 same-length : tie.Need-same-length
-same-length c = omega arith
+same-length c = simp length-set (omega arith)
 
 returns : tie.Need-returns
 unfolding octets closingFrame
 returns c =
-    let h = c .before .before .before .before .header-check in
-    let o = c .before .before .before .before .before .before .before .before .put-closing-control in
-    let a = c .before .before .before .before .before .before .before .before .before .before .before .args in
+    let h = c .header-check in
+    let o = c .before .before .before .before .put-closing-control in
+    let a = c .before .before .before .before .before .before .before .args in
     let k = closingControl 0 (a .c) in
     let t : take 17 (o .last .0) ≡ k = ap (take 17) (o .ensures) ∙ take-front (now (a .out)) k 17 refl in
     let v : h .result * 4 % 256 ≡ headerCheck k * 4 = omega (arith, check-lt header k, h .ensures ∙ ap headerCheck t) in
-    laid-on (now (a .out)) k (octets 1 (headerCheck k * 4)) 17 refl (o .ensures) (rw v at (c .before .before .put .ensures))
+    let w : headerCheck k * 4 % 256 ≡ headerCheck k * 4 = omega (arith, check-lt header k) in
+    laid-on (now (a .out)) k (octets 1 (headerCheck k * 4)) 17 refl (o .ensures) (stored (o .last .0) 17 (h .result * 4 % 256) (omega arith) ∙ rw (v, w))
 
 pub put-closing-spec : {M : Type 1} → statement M
 put-closing-spec =
@@ -54,7 +52,6 @@ put-closing-spec =
     slice-reshare-prefix-header-check
     slice-aggregate-header-check
     header-check-requires
-    cast-put
-    put-requires
+    slice-write-out
     same-length
     returns)

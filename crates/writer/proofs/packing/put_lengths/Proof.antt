@@ -37,12 +37,21 @@ two ls i h =
     drop-cons ls i 0 (omega arith) ∙ rw (drop-cons ls (suc i) 0 g, add-one, add-two)
 
 -- neither they nor the rest are above
-short : (ls : List ℕ) (i : ℕ) → i + 1 < length ls → anyAbove (drop i ls) ≡ false → (getD ls (i + 1) 0 ≤ 4095) × (anyAbove (drop (i + 2) ls) ≡ false)
+short : (ls : List ℕ) (i : ℕ) → i + 1 < length ls → anyAbove (drop i ls) ≡ false
+    → (getD ls i 0 ≤ 4095) × (getD ls (i + 1) 0 ≤ 4095) × (anyAbove (drop (i + 2) ls) ≡ false)
 short ls i h w =
     let a = getD ls i 0 in
     let b = getD ls (i + 1) 0 in
     let rest = drop (i + 2) ls in
-    above-head b rest (above-head a (b ∷ rest) (rw (two ls i h) at w) .1)
+    let p = above-head a (b ∷ rest) (rw (two ls i h) at w) in
+    let q = above-head b rest (p .1) in
+    (p .0, q .0, q .1)
+
+-- the last length alone
+one : (ls : List ℕ) (i : ℕ) → i < length ls → length ls ≤ i + 1 → drop i ls ≡ getD ls i 0 ∷ []
+one ls i h l =
+    let n : drop (i + 1) ls ≡ [] = drop-of-length-le ls l in
+    drop-cons ls i 0 h ∙ rw (← (add-one i), n)
 
 loop-holds : tie.Need-loop-holds Inv-loop μ-loop
 loop-holds c = (search needs, refl, omega arith, c .before .before .pre .short, refl)
@@ -50,29 +59,27 @@ loop-holds c = (search needs, refl, omega arith, c .before .before .pre .short, 
 sub-loop : tie.Need-sub-loop Inv-loop μ-loop
 sub-loop c = omega arith
 
-mul-two-lengths : tie.Need-mul-two-lengths Inv-loop μ-loop
-mul-two-lengths c = omega arith
+mul-put-two : tie.Need-mul-put-two Inv-loop μ-loop
+mul-put-two c = omega arith
 
-shared-slice-read-two-lengths : tie.Need-shared-slice-read-two-lengths Inv-loop μ-loop
-shared-slice-read-two-lengths c = omega arith
+shared-slice-read-put-two : tie.Need-shared-slice-read-put-two Inv-loop μ-loop
+shared-slice-read-put-two c = omega arith
 
-add-two-lengths : tie.Need-add-two-lengths Inv-loop μ-loop
-add-two-lengths c = omega arith
+add-put-two : tie.Need-add-put-two Inv-loop μ-loop
+add-put-two c = omega arith
 
-mul-two-lengths-2 : tie.Need-mul-two-lengths-2 Inv-loop μ-loop
-mul-two-lengths-2 c = omega arith
+mul-put-two-2 : tie.Need-mul-put-two-2 Inv-loop μ-loop
+mul-put-two-2 c = omega arith
 
-shared-slice-read-two-lengths-2 : tie.Need-shared-slice-read-two-lengths-2 Inv-loop μ-loop
-shared-slice-read-two-lengths-2 c = omega arith
+shared-slice-read-put-two-2 : tie.Need-shared-slice-read-put-two-2 Inv-loop μ-loop
+shared-slice-read-put-two-2 c = omega arith
 
-two-lengths-requires : tie.Need-two-lengths-requires Inv-loop μ-loop
-two-lengths-requires c κs =
+put-two-requires : tie.Need-put-two-requires Inv-loop μ-loop
+put-two-requires c κs =
     let ls = now (c .before .before .before .before .before .before .before .args .lengths) in
     let l = c .before .before .before .before .loop in
-    short ls (l .i) (omega arith) (l .inv .3) .0
-
-put-requires : tie.Need-put-requires Inv-loop μ-loop
-put-requires c κs = omega arith
+    let s = short ls (l .i) (omega arith) (l .inv .3) in
+    (s .0, s .1, omega arith)
 
 add-i : tie.Need-add-i Inv-loop μ-loop
 add-i c = omega arith
@@ -86,46 +93,43 @@ loop-less c = omega arith
 loop-again : tie.Need-loop-again Inv-loop μ-loop
 unfolding packed octets
 loop-again c =
-    let put = c .before .before .put in
-    let t = c .before .before .before .two-lengths in
-    let l = c .before .before .before .before .before .before .before .before .loop in
-    let ls = now (c .before .before .before .before .before .before .before .before .before .before .before .args .lengths) in
+    let put = c .before .before .put-two in
+    let l = c .before .before .before .before .before .before .before .loop in
+    let ls = now (c .before .before .before .before .before .before .before .before .before .before .args .lengths) in
     let h : l .i + 1 < length ls = omega arith in
     let v = getD ls (l .i) 0 * 4096 + getD ls (l .i + 1) 0 in
     let r = packed (drop (l .i + 2) ls) in (
       omega arith,
       put .kept .0 ∙ l .inv .1,
       omega (arith, put .kept .0),
-      short ls (l .i) h (l .inv .3) .1,
-      laid-then (l .out) (octets 3 v) r (l .at) (omega arith) (rw (t .ensures) at (put .ensures)) ∙ (rw (two ls (l .i) h) at (l .inv .4)),
+      short ls (l .i) h (l .inv .3) .2,
+      laid-then (l .out) (octets 3 v) r (l .at) (omega arith) (put .ensures) ∙ (rw (two ls (l .i) h) at (l .inv .4)),
     )
 
-mul-one-length : tie.Need-mul-one-length Inv-loop μ-loop
-mul-one-length c = omega arith
+mul-put-one : tie.Need-mul-put-one Inv-loop μ-loop
+mul-put-one c = omega arith
 
-shared-slice-read-one-length : tie.Need-shared-slice-read-one-length Inv-loop μ-loop
-shared-slice-read-one-length c = omega arith
+shared-slice-read-put-one : tie.Need-shared-slice-read-put-one Inv-loop μ-loop
+shared-slice-read-put-one c = omega arith
 
-one-length-requires : tie.Need-one-length-requires Inv-loop μ-loop
-one-length-requires c κs = omega arith
-
-put-requires-2 : tie.Need-put-requires-2 Inv-loop μ-loop
-put-requires-2 c κs = omega arith
+put-one-requires : tie.Need-put-one-requires Inv-loop μ-loop
+put-one-requires c κs =
+    let l = c .before .before .before .before .loop in
+    let ls = now (c .before .before .before .before .before .before .before .args .lengths) in
+    let e = one ls (l .i) (omega arith) (omega arith) in
+    (above-head _ [] (rw e at (l .inv .3)) .0, omega arith)
 
 same-length : tie.Need-same-length Inv-loop μ-loop
 same-length c =
-    c .before .before .put2 .kept .0 ∙ c .before .before .before .before .before .before .before .before .loop .inv .1
+    c .before .before .put-one .kept .0 ∙ c .before .before .before .before .before .before .before .loop .inv .1
 
 returns : tie.Need-returns Inv-loop μ-loop
 unfolding packed
 returns c =
-    let t = c .before .before .before .one-length in
-    let l = c .before .before .before .before .before .before .before .before .loop in
-    let ls = now (c .before .before .before .before .before .before .before .before .before .before .before .args .lengths) in
-    let h : length ls ≤ l .i + 1 = omega arith in
-    let n : drop (l .i + 1) ls ≡ [] = drop-of-length-le ls h in
-    let e : drop (l .i) ls ≡ getD ls (l .i) 0 ∷ [] = drop-cons ls (l .i) 0 (omega arith) ∙ rw (← (add-one (l .i)), n) in
-    (rw (t .ensures) at (c .before .before .put2 .ensures)) ∙ (rw e at (l .inv .4))
+    let l = c .before .before .before .before .before .before .before .loop in
+    let ls = now (c .before .before .before .before .before .before .before .before .before .before .args .lengths) in
+    let e = one ls (l .i) (omega arith) (omega arith) in
+    c .before .before .put-one .ensures ∙ (rw e at (l .inv .4))
 
 same-length-2 : tie.Need-same-length-2 Inv-loop μ-loop
 same-length-2 c = c .before .before .loop .inv .1
@@ -147,21 +151,19 @@ put-lengths-spec =
     μ-loop
     loop-holds
     sub-loop
-    mul-two-lengths
-    shared-slice-read-two-lengths
-    add-two-lengths
-    mul-two-lengths-2
-    shared-slice-read-two-lengths-2
-    two-lengths-requires
-    put-requires
+    mul-put-two
+    shared-slice-read-put-two
+    add-put-two
+    mul-put-two-2
+    shared-slice-read-put-two-2
+    put-two-requires
     add-i
     add-at
     loop-less
     loop-again
-    mul-one-length
-    shared-slice-read-one-length
-    one-length-requires
-    put-requires-2
+    mul-put-one
+    shared-slice-read-put-one
+    put-one-requires
     same-length
     returns
     same-length-2

@@ -1,6 +1,6 @@
 -- `writer::parts::put_checks` meets its contract. Assumes nothing.
 use mathlib.Core.Path.{sym, ap, _∙_}
-use Prim.Native.Nat.{ℕ}
+use Prim.Native.Nat.{ℕ, _+_, _*_}
 use native.Mathlib.Omega.{arith}
 use lib.Seq.{length-take-le}
 use denote.Ref.{now}
@@ -20,21 +20,17 @@ slice-aggregate-header-check c =
 header-check-requires : tie.Need-header-check-requires
 header-check-requires c κs = omega arith
 
-both-checks-requires : tie.Need-both-checks-requires
-both-checks-requires c κs = omega arith
-
-put-requires : tie.Need-put-requires
-put-requires c κs = omega arith
+put-both-requires : tie.Need-put-both-requires
+put-both-requires c κs = omega arith
 
 same-length : tie.Need-same-length
 same-length c = omega arith
 
 returns : tie.Need-returns
 returns c =
-    let a = c .before .before .before .before .before .before .before .before .args in
-    let both = c .before .before .before .both-checks in
-    let header = c .before .before .before .before .before .header-check in
-    c .before .before .put .ensures ∙ ap (λ (v : ℕ). laid (now (a .out)) (a .n) (octets 2 v)) (both .ensures ∙ rw (header .ensures))
+    let a = c .before .before .before .before .before .before .before .args in
+    let header = c .before .before .before .before .header-check in
+    c .before .before .put-both .ensures ∙ ap (λ (h : ℕ). laid (now (a .out)) (a .n) (octets 2 (h * 1024 + a .check))) (header .ensures)
 
 pub put-checks-spec : {M : Type 1} → statement M
 put-checks-spec =
@@ -43,7 +39,6 @@ put-checks-spec =
     slice-reshare-prefix-header-check
     slice-aggregate-header-check
     header-check-requires
-    both-checks-requires
-    put-requires
+    put-both-requires
     same-length
     returns)
