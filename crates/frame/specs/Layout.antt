@@ -6,6 +6,7 @@ use lib.ListN.{length, getD, drop}
 use Rattle.fields.specs.Numbers.{be}
 use Rattle.frame.specs.declared.DataPdu.{DataPdu}
 use Rattle.frame.specs.declared.ClosingPdu.{ClosingPdu}
+use Rattle.frame.specs.Sizes.{shortControl, longControl, dataHead, closingSize, lengthsHead}
 
 -- "The first octet holds the type in bits 7 to 4", PDU Type (5.5.3.1)
 abbrev pub typeOf : List ℕ → ℕ
@@ -33,15 +34,15 @@ octetsOf s = be 5 s 12
 
 -- "The control part is 9 octets in Type 1 and 17 in Types 0 and 3"
 abbrev pub control : ℕ → ℕ
-control zero = 17
-control (suc zero) = 9
-control (suc (suc t)) = 17
+control zero = longControl
+control (suc zero) = shortControl
+control (suc (suc t)) = longControl
 
 -- "Always 18 octets"; "Least sizes are 11 and 19"
 abbrev pub least : ℕ → ℕ
-least zero = 18
-least (suc zero) = 11
-least (suc (suc t)) = 19
+least zero = closingSize
+least (suc zero) = dataHead
+least (suc (suc t)) = lengthsHead
 
 -- behind a control part of n octets: "six bits of header check" (5.5.3.10)
 abbrev pub headerCheckIn : ℕ → List ℕ → ℕ
@@ -57,7 +58,7 @@ payloadPart n s = drop (n + 2) s
 
 -- "In Type 1 everything after the checks is payload, from the frame's twelfth octet to its end"
 unfoldable pub payloadOf : List ℕ → List ℕ
-payloadOf s = payloadPart 9 s
+payloadOf s = payloadPart shortControl s
 
 -- the length that is recorded is that of the payload which is handed on
 abbrev pub payloadLength : List ℕ → ℕ
@@ -71,7 +72,7 @@ upperOrLower (suc r) x = x % 4096
 -- Type 3: "N lengths of 12 bits follow, packed without gaps". The i-th is in the two octets that its first bit and its last
 -- stand in: their upper bits where i is even, their lower where it is odd.
 unfoldable pub lengthAt : List ℕ → ℕ → ℕ
-lengthAt s i = upperOrLower (i % 2) (be 2 s (19 + 3 * i / 2))
+lengthAt s i = upperOrLower (i % 2) (be 2 s (lengthsHead + 3 * i / 2))
 
 -- "They fill W octets: 1.5 N for even N, 1.5 (N-1) + 2 for odd N"
 abbrev pub filled : ℕ → ℕ

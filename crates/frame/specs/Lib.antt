@@ -3,4 +3,5 @@ pub mod Layout
 pub mod Listing
 pub mod Paper
 pub mod Reading
+pub mod Sizes
 pub mod Writing

@@ -11,6 +11,7 @@ use Rattle.fields.specs.Choice.{_when_otherwise_}
 use Rattle.checks.specs.Check.{headerCheck, payloadCheck}
 use Rattle.frame.specs.declared.Read.{Read}
 use Rattle.frame.specs.declared.Read.the-variants.{Closing, Data, ClosingWithLengths, Refused}
+use Rattle.frame.specs.Sizes.{shortControl, longControl, closingSize, lengthsHead}
 use Rattle.frame.specs.Layout.{typeOf, stampOf, numberOf, elapsedOf, control, least, headerCheckIn, payloadCheckIn, payloadPart, payloadLength, filled, dataOf, closingOf}
 use Rattle.frame.specs.Counts.{dataWrong, closingWrong, lengthsWrong}
 
@@ -28,15 +29,15 @@ payloadWrong n s = not (eqb (payloadCheck (payloadPart n s)) (payloadCheckIn n s
 
 -- refusal 6: "Type 0 not 18 octets; Type 1 payload above 4,095; Type 3 not 19+W to 19+W+4"
 abbrev pub lengthWrong : ℕ → List ℕ → Bool
-lengthWrong zero s = not (eqb (length s) 18)
+lengthWrong zero s = not (eqb (length s) closingSize)
 lengthWrong (suc zero) s = ltb mostPayload (payloadLength s)
-lengthWrong (suc (suc t)) s = ltb (length s) (19 + filled (numberOf s)) || ltb (19 + filled (numberOf s) + 4) (length s)
+lengthWrong (suc (suc t)) s = ltb (length s) (lengthsHead + filled (numberOf s)) || ltb (lengthsHead + filled (numberOf s) + 4) (length s)
 
 -- refusal 7: Type 0 has no payload check
 abbrev pub checkWrong : ℕ → List ℕ → Bool
 checkWrong zero s = false
-checkWrong (suc zero) s = payloadWrong 9 s
-checkWrong (suc (suc t)) s = payloadWrong 17 s
+checkWrong (suc zero) s = payloadWrong shortControl s
+checkWrong (suc (suc t)) s = payloadWrong longControl s
 
 -- refusal 8: the counts of each type
 abbrev pub countsWrong : ℕ → List ℕ → Bool

@@ -13,6 +13,7 @@ use Rattle.checks.specs.Check.{headerCheck, payloadCheck}
 use Rattle.frame.specs.declared.ClosingPdu.{ClosingPdu}
 use Rattle.frame.specs.declared.Written.{Written}
 use Rattle.frame.specs.declared.Written.the-variants.{Done, Refused}
+use Rattle.frame.specs.Sizes.{dataHead, closingSize, lengthsHead}
 use Rattle.frame.specs.Layout.{filled}
 use Rattle.frame.specs.Counts.{dataWrong, givenWrong, listWrong}
 
@@ -57,16 +58,16 @@ writeData stamp n e l room =
     refuseWrite stampTooHigh when ltb lastStamp stamp otherwise
     refuseWrite payloadTooLong when ltb mostPayload l otherwise
     refuseWrite countsImpossible when dataWrong n e otherwise
-    refuseWrite noRoom when ltb room (11 + l) otherwise
-    Done (11 + l)
+    refuseWrite noRoom when ltb room (dataHead + l) otherwise
+    Done (dataHead + l)
 
 -- "5, 8, 12": a closing PDU of Type 0
 unfoldable pub writeClosing : ClosingPdu → ℕ → Written
 writeClosing c room =
     refuseWrite stampTooHigh when ltb lastStamp (c .stamp) otherwise
     refuseWrite countsImpossible when givenWrong c otherwise
-    refuseWrite noRoom when ltb room 18 otherwise
-    Done 18
+    refuseWrite noRoom when ltb room closingSize otherwise
+    Done closingSize
 
 -- "5, 8, 22, 12": a closing PDU of Type 3
 unfoldable pub writeLengths : ClosingPdu → List ℕ → ℕ → Written
@@ -74,8 +75,8 @@ writeLengths c ls room =
     refuseWrite stampTooHigh when ltb lastStamp (c .stamp) otherwise
     refuseWrite countsImpossible when givenWrong c otherwise
     refuseWrite lengthsWrong when listWrong ls (c .number .0) (c .elapsed .0) otherwise
-    refuseWrite noRoom when ltb room (19 + filled (length ls)) otherwise
-    Done (19 + filled (length ls))
+    refuseWrite noRoom when ltb room (lengthsHead + filled (length ls)) otherwise
+    Done (lengthsHead + filled (length ls))
 
 -- what lent memory holds after: the frame in front, and behind it what stood there; or, refused, what it held
 unfoldable pub after : Written → List ℕ → List ℕ → List ℕ

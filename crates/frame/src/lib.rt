@@ -1,5 +1,7 @@
-// What SYNC frames say, and what reading and writing them answers. The definitions of both are in specs/; the functions stand
+// What SYNC frames say, their sizes, and what reading and writing them answers. The definitions are in specs/; the functions stand
 // in `reader` and `writer`.
+pub mod sizes;
+
 use units::Octets;
 use units::Packets;
 use units::Refusal;

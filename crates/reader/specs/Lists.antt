@@ -9,11 +9,12 @@ use Rattle.frame.specs.Layout.{filled}
 use Rattle.frame.specs.Listing.{listLengths, listed}
 use Rattle.frame.specs.Paper.{listedPaper}
 use Rattle.frame.specs.Reading.{readFrame}
+use Rattle.frame.specs.Sizes.{lengthsHead}
 
 -- the lengths that c counts are there
 pub record LengthsFit (s : List ℕ) (c : ClosingPdu) : Type 0 where
   pub few : c .number .0 < 65536
-  pub there : 19 + filled (c .number .0) ≤ length s
+  pub there : lengthsHead + filled (c .number .0) ≤ length s
 
 -- r is the answer for the frame s and the lent list old, and new is what the list then holds
 pub record Lists (s old : List ℕ) (r : Listed) (new : List ℕ) : Type 0 where

@@ -3,6 +3,7 @@ use crate::read_frame;
 use frame::ClosingPdu;
 use frame::Listed;
 use frame::Read;
+use frame::sizes::LENGTHS_HEAD;
 use units::Packets;
 use units::Refusal;
 use units::refusals::NO_ROOM;
@@ -12,14 +13,15 @@ ghost use lib.ListN.{length};
 ghost use Rattle.fields.specs.Runs.{front};
 ghost use Rattle.frame.specs.Counts.{lengthsWrong};
 ghost use Rattle.frame.specs.Layout.{lengthAt, lengthsOf, sumLengths, filled};
+ghost use Rattle.frame.specs.Sizes.{lengthsHead};
 ghost use Rattle.reader.specs.Lists.{LengthsFit, Lists};
 
 // The i-th length: the upper 12 bits of two octets, or the lower.
 fn length_at(frame: &[u8], i: usize) -> u64
-    requires { ⌜ (i < 65536) × (19 + 3 * i / 2 + 2 ≤ length (now frame)) ⌝ }
+    requires { ⌜ (i < 65536) × (lengthsHead + 3 * i / 2 + 2 ≤ length (now frame)) ⌝ }
     ensures { λ r. ⌜ (r ≡ lengthAt (now (frame .entry)) i) × (r < 4096) ⌝ }
 {
-    let at = 19 + 3 * i / 2;
+    let at = LENGTHS_HEAD + 3 * i / 2;
     let upper = frame[at] as u64;
     let lower = frame[at + 1] as u64;
     if i % 2 == 0 {
@@ -29,7 +31,7 @@ fn length_at(frame: &[u8], i: usize) -> u64
 }
 
 fn sum_lengths(frame: &[u8], n: usize) -> u64
-    requires { ⌜ (n < 65536) × (19 + filled n ≤ length (now frame)) ⌝ }
+    requires { ⌜ (n < 65536) × (lengthsHead + filled n ≤ length (now frame)) ⌝ }
     ensures { λ r. ⌜ r ≡ sumLengths (now (frame .entry)) n ⌝ }
 {
     let mut sum: u64 = 0;
@@ -54,7 +56,7 @@ pub fn lengths_wrong(frame: &[u8], c: ClosingPdu) -> bool
 
 // The first n lengths, into the front of out.
 fn list(frame: &[u8], n: usize, out: &mut [u16])
-    requires { ⌜ (n < 65536) × (19 + filled n ≤ length (now frame)) × (n ≤ length (now out)) ⌝ }
+    requires { ⌜ (n < 65536) × (lengthsHead + filled n ≤ length (now frame)) × (n ≤ length (now out)) ⌝ }
     ensures { λ _. ⌜ now (out .exit) ≡ front (now (out .entry)) (lengthsOf (now (frame .entry)) 0 n) ⌝ }
 {
     let mut i: usize = 0;

@@ -4,6 +4,11 @@ mod lengths;
 mod parts;
 
 use frame::Read;
+use frame::sizes::CLOSING_SIZE;
+use frame::sizes::DATA_HEAD;
+use frame::sizes::LENGTHS_HEAD;
+use frame::sizes::LONG_CONTROL;
+use frame::sizes::SHORT_CONTROL;
 pub use lengths::read_lengths;
 use parts::closing_of;
 use parts::control_of;
@@ -27,14 +32,15 @@ ghost use Prim.Native.Nat.{_≤_};
 ghost use lib.ListN.{length};
 ghost use Rattle.frame.specs.Layout.{least};
 ghost use Rattle.frame.specs.Paper.{readPaper};
+ghost use Rattle.frame.specs.Sizes.{closingSize, dataHead, lengthsHead};
 ghost use Rattle.frame.specs.Reading.{readBody, readHeaded, readFrame};
 
 // Type 0.
 fn read_closing(frame: &[u8]) -> Read
-    requires { ⌜ 18 ≤ length (now frame) ⌝ }
+    requires { ⌜ closingSize ≤ length (now frame) ⌝ }
     ensures { λ r. ⌜ r ≡ readBody 0 (now (frame .entry)) ⌝ }
 {
-    if frame.len() != 18 {
+    if frame.len() != CLOSING_SIZE {
         return Read::Refused(Refusal { number: SIZE_WRONG });
     }
     let c = closing_of(frame);
@@ -48,14 +54,14 @@ fn read_closing(frame: &[u8]) -> Read
 
 // Type 1. The payload is the part from the twelfth octet to the end.
 fn read_data(frame: &[u8]) -> Read
-    requires { ⌜ 11 ≤ length (now frame) ⌝ }
+    requires { ⌜ dataHead ≤ length (now frame) ⌝ }
     ensures { λ r. ⌜ r ≡ readBody 1 (now (frame .entry)) ⌝ }
 {
-    let payload = &frame[11..];
+    let payload = &frame[DATA_HEAD..];
     if MOST_PAYLOAD < payload.len() as u64 {
         return Read::Refused(Refusal { number: SIZE_WRONG });
     }
-    if payload_wrong(frame, 9, payload) {
+    if payload_wrong(frame, SHORT_CONTROL, payload) {
         return Read::Refused(Refusal {
             number: PAYLOAD_CHECK_WRONG,
         });
@@ -71,18 +77,18 @@ fn read_data(frame: &[u8]) -> Read
 
 // Type 3. Up to four octets of extension may follow the lengths.
 fn read_with_lengths(frame: &[u8]) -> Read
-    requires { ⌜ 19 ≤ length (now frame) ⌝ }
+    requires { ⌜ lengthsHead ≤ length (now frame) ⌝ }
     ensures { λ r. ⌜ r ≡ readBody 3 (now (frame .entry)) ⌝ }
 {
     let c = closing_of(frame);
     let w = (3 * (c.number.0 as usize) + 1) / 2;
-    if frame.len() < 19 + w {
+    if frame.len() < LENGTHS_HEAD + w {
         return Read::Refused(Refusal { number: SIZE_WRONG });
     }
-    if 19 + w + 4 < frame.len() {
+    if LENGTHS_HEAD + w + 4 < frame.len() {
         return Read::Refused(Refusal { number: SIZE_WRONG });
     }
-    if payload_wrong(frame, 17, &frame[19..]) {
+    if payload_wrong(frame, LONG_CONTROL, &frame[LENGTHS_HEAD..]) {
         return Read::Refused(Refusal {
             number: PAYLOAD_CHECK_WRONG,
         });

@@ -1,27 +1,37 @@
 // The parts of a frame: sizes by type, both checks, and the fields.
 use frame::ClosingPdu;
 use frame::DataPdu;
+use frame::sizes::CLOSING_SIZE;
+use frame::sizes::DATA_HEAD;
+use frame::sizes::LENGTHS_HEAD;
+use frame::sizes::LONG_CONTROL;
+use frame::sizes::SHORT_CONTROL;
 use units::Octets;
 use units::Packets;
 ghost use mathlib.Core.Path.{_≡_};
 ghost use Prim.Native.Nat.{_+_, _≤_, _<_};
 ghost use lib.ListN.{length, drop};
 ghost use Rattle.frame.specs.Layout.{control, least, payloadOf, dataOf, closingOf};
+ghost use Rattle.frame.specs.Sizes.{dataHead, longControl};
 ghost use Rattle.frame.specs.Reading.{headerWrong, payloadWrong};
 
 pub fn control_of(kind: u8) -> usize
     ensures { λ r. ⌜ r ≡ control kind ⌝ }
 {
-    if kind == 1 { 9 } else { 17 }
+    if kind == 1 {
+        SHORT_CONTROL
+    } else {
+        LONG_CONTROL
+    }
 }
 
 pub fn least_of(kind: u8) -> usize
     ensures { λ r. ⌜ r ≡ least kind ⌝ }
 {
     if kind == 0 {
-        return 18;
+        return CLOSING_SIZE;
     }
-    if kind == 1 { 11 } else { 19 }
+    if kind == 1 { DATA_HEAD } else { LENGTHS_HEAD }
 }
 
 // The header check stands in the upper six bits behind the control part.
@@ -43,7 +53,7 @@ pub fn payload_wrong(frame: &[u8], n: usize, part: &[u8]) -> bool
 
 // The length that is recorded is that of the payload which is handed on.
 pub fn data_of(frame: &[u8], payload: &[u8]) -> DataPdu
-    requires { ⌜ (11 ≤ length (now frame)) × (now payload ≡ payloadOf (now frame)) ⌝ }
+    requires { ⌜ (dataHead ≤ length (now frame)) × (now payload ≡ payloadOf (now frame)) ⌝ }
     ensures { λ r. ⌜ r ≡ dataOf (now (frame .entry)) ⌝ }
 {
     DataPdu {
@@ -55,7 +65,7 @@ pub fn data_of(frame: &[u8], payload: &[u8]) -> DataPdu
 }
 
 pub fn closing_of(frame: &[u8]) -> ClosingPdu
-    requires { ⌜ 17 ≤ length (now frame) ⌝ }
+    requires { ⌜ longControl ≤ length (now frame) ⌝ }
     ensures { λ r. ⌜ r ≡ closingOf (now (frame .entry)) ⌝ }
 {
     ClosingPdu {

@@ -9,6 +9,9 @@ ghost use Rattle.frame.specs.Writing.{dataFrame, closingFrame, lengthsFrame, wr
 ghost use Rattle.writer.specs.Promise.{Wrote};
 use frame::ClosingPdu;
 use frame::Written;
+use frame::sizes::CLOSING_SIZE;
+use frame::sizes::DATA_HEAD;
+use frame::sizes::LENGTHS_HEAD;
 use units::Octets;
 use units::Packets;
 use units::Refusal;
@@ -48,7 +51,7 @@ pub fn write_data(
             number: COUNTS_IMPOSSIBLE,
         });
     }
-    let size = 11 + payload.len();
+    let size = DATA_HEAD + payload.len();
     if out.len() < size {
         return Written::Refused(Refusal { number: NO_ROOM });
     }
@@ -73,11 +76,11 @@ pub fn write_closing(c: ClosingPdu, out: &mut [u8]) -> Written
             number: COUNTS_IMPOSSIBLE,
         });
     }
-    if out.len() < 18 {
+    if out.len() < CLOSING_SIZE {
         return Written::Refused(Refusal { number: NO_ROOM });
     }
     frames::put_closing(c, out);
-    Written::Done(18)
+    Written::Done(CLOSING_SIZE)
 }
 
 // A closing PDU with the length of each packet (Type 3).
@@ -102,7 +105,7 @@ pub fn write_closing_with_lengths(c: ClosingPdu, lengths: &[u16], out: &mut [u8]
             number: LENGTHS_WRONG,
         });
     }
-    let size = 19 + packing::filled_octets(lengths.len());
+    let size = LENGTHS_HEAD + packing::filled_octets(lengths.len());
     if out.len() < size {
         return Written::Refused(Refusal { number: NO_ROOM });
     }

@@ -5,8 +5,10 @@ ghost use lib.ListN.{length};
 ghost use Rattle.fields.specs.Numbers.{octets};
 ghost use Rattle.fields.specs.Runs.{laid};
 ghost use Rattle.frame.specs.Layout.{filled};
+ghost use Rattle.frame.specs.Sizes.{lengthsHead};
 ghost use Rattle.frame.specs.Writing.{packed};
-ghost use Rattle.writer.specs.Room.{LengthsFit};
+ghost use Rattle.writer.specs.Room.{RoomForLengths};
+use frame::sizes::LENGTHS_HEAD;
 
 // Both checks in two octets: six bits of header check and then ten of payload check.
 pub fn put_both(out: &mut [u8], at: usize, header: u8, check: u16)
@@ -46,11 +48,11 @@ pub fn filled_octets(n: usize) -> usize
 
 // The lengths, 12 bits each without gaps, laid into out behind the checks of a Type 3 frame.
 pub fn put_lengths(lengths: &[u16], out: &mut [u8])
-    requires { ⌜ LengthsFit (now lengths) (now out) ⌝ }
-    ensures { λ _. ⌜ now (out .exit) ≡ laid (now (out .entry)) 19 (packed (now (lengths .entry))) ⌝ }
+    requires { ⌜ RoomForLengths (now lengths) (now out) ⌝ }
+    ensures { λ _. ⌜ now (out .exit) ≡ laid (now (out .entry)) lengthsHead (packed (now (lengths .entry))) ⌝ }
 {
     let mut i: usize = 0;
-    let mut at: usize = 19;
+    let mut at: usize = LENGTHS_HEAD;
     while 1 < lengths.len() - i {
         put_two(out, at, lengths[i], lengths[i + 1]);
         i += 2;

@@ -5,6 +5,7 @@ ghost use lib.ListN.{length, take};
 ghost use Rattle.fields.specs.Numbers.{octets};
 ghost use Rattle.fields.specs.Runs.{laid, front};
 ghost use Rattle.checks.specs.Check.{headerCheck};
+ghost use Rattle.frame.specs.Sizes.{longControl, shortControl};
 ghost use Rattle.frame.specs.Writing.{controlPart, closingControl};
 use crate::packing::put_both;
 use frame::ClosingPdu;
@@ -13,7 +14,7 @@ use units::Packets;
 
 // The fields that all types have.
 pub fn put_control(out: &mut [u8], kind: u8, stamp: u32, number: Packets, elapsed: Octets)
-    requires { ⌜ (kind < 16) × (9 ≤ length (now out)) ⌝ }
+    requires { ⌜ (kind < 16) × (shortControl ≤ length (now out)) ⌝ }
     ensures { λ _. ⌜ now (out .exit) ≡ front (now (out .entry)) (controlPart kind stamp (number .0) (elapsed .0)) ⌝ }
 {
     fields::put(out, 0, 1, (kind as u64) << 4);
@@ -24,7 +25,7 @@ pub fn put_control(out: &mut [u8], kind: u8, stamp: u32, number: Packets, elapse
 
 // The control part of a closing PDU.
 pub fn put_closing_control(out: &mut [u8], kind: u8, c: ClosingPdu)
-    requires { ⌜ (kind < 16) × (17 ≤ length (now out)) ⌝ }
+    requires { ⌜ (kind < 16) × (longControl ≤ length (now out)) ⌝ }
     ensures { λ _. ⌜ now (out .exit) ≡ front (now (out .entry)) (closingControl kind c) ⌝ }
 {
     put_control(out, kind, c.stamp, c.number, c.elapsed);
