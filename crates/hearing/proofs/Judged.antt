@@ -1,7 +1,7 @@
 -- A record before a frame is taken: what is known of it once its lists match and it is not damaged, and how the answers of the stages
 -- are those of the whole. Assumes nothing.
 use Prim.Native.Nat.{ℕ, _≤_, _<_}
-use mathlib.Core.Path.{_≡_, refl}
+use mathlib.Core.Path.{_≡_, refl, ap}
 use mathlib.Core.Bool.{true, false}
 use mathlib.Core.List.{List}
 use native.Mathlib.Omega.{arith}
@@ -23,7 +23,7 @@ use Rattle.reception.specs.Sendings.{Held}
 use Rattle.reception.specs.Walk.{isExplained}
 use Rattle.reception.specs.Damage.{closingOff, placesWrong, walkFails, damagedRecord}
 use Rattle.reception.specs.Neighbours.{NoneBefore, NoneFrom}
-use Rattle.reception.specs.Hearing.{Kept, Outcome, refuses, takes, listsDiffer, unmatched, damagedKept, unused, openHead, emptyKept, freshRecord, hearPacket, hearClosing, hearRead, hearFrame, Takes}
+use Rattle.reception.specs.Hearing.{Kept, Outcome, refuses, takes, listsDiffer, unmatched, damagedKept, unused, openHead, emptyKept, freshRecord, dataPdu, hearPacket, hearClosing, hearRead, hearFrame, Takes}
 
 -- a record that is not damaged is explained
 pub explained : (stamp : ℕ) (r : Held) → damagedRecord stamp r ≡ false → isExplained r ≡ true
@@ -70,6 +70,11 @@ module _ (k : Kept) (bearer period : ℕ) where
   pub packet-judged : (d : DataPdu) → damagedKept k ≡ false → hearRead k bearer period (Data d) ≡ hearPacket k bearer period d
   unfolding hearRead
   packet-judged d h = rw h refl
+
+  -- a data PDU is heard with the length l of the payload that is handed on
+  pub packet-with : (d : DataPdu) (l : ℕ) → d .length .0 ≡ l
+      → hearPacket k bearer period d ≡ hearPacket k bearer period (dataPdu (d .stamp) (d .number .0) (d .elapsed .0) l)
+  packet-with d l e = ap (λ (x : ℕ). hearPacket k bearer period (dataPdu (d .stamp) (d .number .0) (d .elapsed .0) x)) e
 
   pub closing-damaged : (c : ClosingPdu) → damagedKept k ≡ true → hearRead k bearer period (Closing c) ≡ refuses k recordDamaged
   unfolding hearRead

@@ -81,7 +81,7 @@ fn follow(h: Head, number: u8, span: Span, k: usize) -> Following
     }
 }
 
-// A data PDU.
+// A data PDU and its payload.
 fn next_packet(
     h: Head,
     span: Span,
@@ -91,12 +91,14 @@ fn next_packet(
     bearer: u32,
     period: u32,
     d: DataPdu,
+    payload: &[u8],
 ) -> Following
     requires { ⌜ Matched (now marks) (now elapsed) (now sizes) ⌝ }
     requires { ⌜ NoneBefore (now marks) (span .first) ⌝ }
     requires { ⌜ NoneFrom (now marks) (span .end) ⌝ }
     requires { ⌜ damagedKept (keptIn h (now marks) (now elapsed) (now sizes)) ≡ false ⌝ }
-    requires { ⌜ (d .number .0 < 65536) × (d .elapsed .0 < 4294967296) × (d .length .0 < 65536) ⌝ }
+    requires { ⌜ (d .number .0 < 65536) × (d .elapsed .0 < 4294967296) × (length (now payload) < 65536)
+        × (d .length .0 ≡ length (now payload)) ⌝ }
     ensures { λ r. ⌜ Follows
         (hearPacket (keptIn h (now (marks .entry)) (now (elapsed .entry)) (now (sizes .entry))) bearer period d)
         r (now (marks .exit)) (now (elapsed .exit)) (now (sizes .exit)) ⌝ }
@@ -113,7 +115,7 @@ fn next_packet(
         d.stamp,
         d.elapsed.0,
         k,
-        d.length.0,
+        payload,
     );
     follow(h, number, span, k)
 }
@@ -173,7 +175,17 @@ pub fn hear_next(
             head: h,
             span: span,
         },
-        Read::Data(d) => next_packet(h, span, marks, elapsed, sizes, bearer, period, d),
+        Read::Data(d) => next_packet(
+            h,
+            span,
+            marks,
+            elapsed,
+            sizes,
+            bearer,
+            period,
+            d,
+            &frame[11..],
+        ),
         Read::Closing(c) => next_closing(h, span, marks, elapsed, sizes, bearer, period, c),
         Read::ClosingWithLengths(c) => next_closing(
             h,

@@ -24,6 +24,7 @@ use units::refusals::RECORD_DAMAGED;
 use units::refusals::STAMP_TOO_HIGH;
 ghost use mathlib.Core.Path.{_≡_};
 ghost use Prim.Native.Nat.{_<_};
+ghost use lib.ListN.{length};
 ghost use Rattle.frame.specs.declared.Read.the-variants.{Data, Closing};
 ghost use Rattle.reception.specs.Damage.{Matched};
 ghost use Rattle.reception.specs.Hearing.{keptIn, freshRecord, hearRead, hearFrame, Takes};
@@ -64,7 +65,7 @@ fn whole(capacity: usize) -> Span
     }
 }
 
-// A data PDU, for any record of matching lists.
+// A data PDU and its payload, for any record of matching lists.
 fn hear_data(
     h: Head,
     marks: &mut [u8],
@@ -73,9 +74,11 @@ fn hear_data(
     bearer: u32,
     period: u32,
     d: DataPdu,
+    payload: &[u8],
 ) -> Taking
     requires { ⌜ Matched (now marks) (now elapsed) (now sizes) ⌝ }
-    requires { ⌜ (d .elapsed .0 < 4294967296) × (d .length .0 < 65536) ⌝ }
+    requires { ⌜ (d .elapsed .0 < 4294967296) × (length (now payload) < 65536) ⌝ }
+    requires { ⌜ d .length .0 ≡ length (now payload) ⌝ }
     ensures { λ r. ⌜ Takes
         (hearRead (keptIn h (now (marks .entry)) (now (elapsed .entry)) (now (sizes .entry))) bearer period (Data d))
         r (now (marks .exit)) (now (elapsed .exit)) (now (sizes .exit)) ⌝ }
@@ -96,7 +99,7 @@ fn hear_data(
         d.stamp,
         d.elapsed.0,
         k,
-        d.length.0,
+        payload,
     );
     answered(h, number)
 }
@@ -146,7 +149,7 @@ pub fn hear(
             answer: Taken::Refused(r),
             head: h,
         },
-        Read::Data(d) => hear_data(h, marks, elapsed, sizes, bearer, period, d),
+        Read::Data(d) => hear_data(h, marks, elapsed, sizes, bearer, period, d, &frame[11..]),
         Read::Closing(c) => hear_closing(h, marks, elapsed, sizes, bearer, period, c),
         Read::ClosingWithLengths(c) => hear_closing(h, marks, elapsed, sizes, bearer, period, c),
     }

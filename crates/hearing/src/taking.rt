@@ -78,9 +78,9 @@ pub fn answered(h: Head, number: u8) -> Taking
     refused(h, number)
 }
 
-// A data PDU by its fields, for a record that some sending explains. Answers 0, or the refusal's number: numbers are handed over in
-// registers, where structs would go through memory. Octets and length do not stand side by side: so they are not fetched by one load
-// of both, which would wait for the two stores that put them there.
+// A data PDU by its fields and its payload, whose length is the one that is kept, for a record that some sending explains. Answers 0,
+// or the refusal's number: numbers are handed over in registers, where structs would go through memory. Octets and length do not stand
+// side by side: so they are not fetched by one load of both, which would wait for the two stores that put them there.
 pub fn take_packet(
     h: Head,
     span: Span,
@@ -92,15 +92,16 @@ pub fn take_packet(
     stamp: u32,
     e: u64,
     k: usize,
-    l: u64,
+    payload: &[u8],
 ) -> u8
     requires { ⌜ Matched (now marks) (now elapsed) (now sizes) ⌝ }
     requires { ⌜ NoneBefore (now marks) (span .first) ⌝ }
     requires { ⌜ NoneFrom (now marks) (span .end) ⌝ }
     requires { ⌜ isExplained (heldIn h (now marks) (now elapsed) (now sizes)) ≡ true ⌝ }
-    requires { ⌜ (e < 4294967296) × (l < 65536) ⌝ }
+    requires { ⌜ (e < 4294967296) × (length (now payload) < 65536) ⌝ }
     ensures { λ r. ⌜ Takes
-        (hearPacket (keptIn h (now (marks .entry)) (now (elapsed .entry)) (now (sizes .entry))) bearer period (dataPdu stamp k e l))
+        (hearPacket (keptIn h (now (marks .entry)) (now (elapsed .entry)) (now (sizes .entry))) bearer period
+        (dataPdu stamp k e (length (now (payload .entry)))))
         (record { answer = takenOf r; head = h }) (now (marks .exit)) (now (elapsed .exit)) (now (sizes .exit)) ⌝ }
 {
     if other_key(h, bearer, period, stamp) {
@@ -109,6 +110,7 @@ pub fn take_packet(
     if marks.len() <= k {
         return BEYOND_CAPACITY;
     }
+    let l = payload.len() as u64;
     if packet_contradicts(h, span, marks, elapsed, sizes, k, e, l) {
         return CONTRADICTION;
     }

@@ -1,11 +1,12 @@
 -- `hearing::hear` meets its contract. Assumes nothing.
-use mathlib.Core.Path.{_≡_, sym, _∙_}
+use mathlib.Core.Path.{_≡_, sym, ap, _∙_}
 use mathlib.Core.Bool.{false}
 use lib.ListN.{length}
 use denote.Ref.{now}
 use Rattle.frame.specs.Reading.{readFrame}
 use Rattle.frame.proofs.OnePaper.{read-known}
-use Rattle.frame.proofs.Said.{data-said}
+use Rattle.frame.proofs.Payload.{part-payload}
+use Rattle.frame.proofs.Said.{HandedOn, data-said, handed-on}
 use Rattle.reception.specs.Hearing.{listsDiffer}
 use Rattle.hearing.proofs.Answered.{refused-as}
 use Rattle.reception.proofs.KeptAsHeld.{lists-matched}
@@ -42,12 +43,26 @@ enum-known-read c = search needs
 enum-known-read-2 : tie.Need-enum-known-read-2
 enum-known-read-2 c = search needs
 
+-- what the frame hands on
+part : (c : tie.After-read2) → HandedOn (now (c .before .before .before .before .before .before .before .before .before .args .frame)) (c .read2 .given .0 .0)
+part c = handed-on _ _ (told (c .before .before) ∙ c .read2 .given .1)
+
+sub-hear-data : tie.Need-sub-hear-data
+sub-hear-data c = omega (arith, part (c .before .before .before .before) .there)
+
+part-hear-data-start : tie.Need-part-hear-data-start
+part-hear-data-start c = omega (arith, part (c .before .before .before .before) .there)
+
+part-hear-data-end : tie.Need-part-hear-data-end
+part-hear-data-end c = omega (arith, part (c .before .before .before .before) .there)
+
 hear-data-requires : tie.Need-hear-data-requires
 hear-data-requires c κs =
-    let r = c .before .before .before .before in
+    let r = c .before .before .before .before .before in
     let f = r .before .before in
     let d = data-said _ _ (told f ∙ r .read2 .given .1) in
-    (lists-matched _ _ _ (even f), (omega (arith, d .number, d .elapsed), omega (arith, d .short)))
+    let l = part r .recorded ∙ ap length (sym (part-payload _)) in
+    (lists-matched _ _ _ (even f), ((omega (arith, d .number, d .elapsed), omega (arith, l, d .short)), l))
 
 enum-known-read-3 : tie.Need-enum-known-read-3
 enum-known-read-3 c = search needs
@@ -79,7 +94,7 @@ same-length-3 c = search needs
 returns-3 : tie.Need-returns-3
 returns-3 c =
     let w = c .before .before .before .before .before .before in
-    let r = w .before .before .before .before .before in
+    let r = w .before .before .before .before .before .before in
     let f = r .before .before in
     same-outcome (frame-read _ _ _ _ _ (even f) (told f ∙ r .read2 .given .1)) (w .hear-data .ensures)
 
@@ -123,6 +138,9 @@ hear-spec =
     read-frame-requires
     enum-known-read
     enum-known-read-2
+    sub-hear-data
+    part-hear-data-start
+    part-hear-data-end
     hear-data-requires
     enum-known-read-3
     hear-closing-requires

@@ -1,7 +1,7 @@
 -- `hearing::hear_data` meets its contract. Assumes nothing.
 use mathlib.Core.Path.{sym, _∙_}
 use Rattle.hearing.proofs.Answered.{refused-as}
-use Rattle.hearing.proofs.Judged.{explained, all-before, all-from, same-outcome, packet-damaged, packet-judged}
+use Rattle.hearing.proofs.Judged.{explained, all-before, all-from, same-outcome, packet-damaged, packet-judged, packet-with}
 use borrow.Author.Needs.{needs}
 use Rattle.hearing.proofs.hear_data.Statement.{statement}
 use Rattle.hearing.proofs.hear_data.Tie as tie
@@ -36,8 +36,8 @@ take-packet-requires : tie.Need-take-packet-requires
 take-packet-requires c κs =
     let w = c .before .before .before .before in
     let e = w .before in
-    let p = e .before .before .before .before .before .before .before .before .pre in
-    (p .0, (rw (w .whole .ensures) (all-before _), (rw (w .whole .ensures) (all-from _), (explained _ _ (sym (e .before .is-damaged .ensures) ∙ e .if1 .left), p .1))))
+    let p = e .before .before .before .before .before .before .before .before .before .pre in
+    (p .0, (rw (w .whole .ensures) (all-before _), (rw (w .whole .ensures) (all-from _), (explained _ _ (sym (e .before .is-damaged .ensures) ∙ e .if1 .left), p .1 .0))))
 
 answered-requires : tie.Need-answered-requires
 answered-requires c κs = search needs
@@ -55,7 +55,9 @@ returns-2 : tie.Need-returns-2
 returns-2 c =
     let t = c .before .before .before .before .before .before .before in
     let e = t .before .before .before .before .before .before in
-    rw (c .answered .ensures) (same-outcome (packet-judged _ _ _ _ (sym (e .before .is-damaged .ensures) ∙ e .if1 .left)) (t .take-packet .ensures))
+    let p = e .before .before .before .before .before .before .before .before .before .pre in
+    rw (c .answered .ensures)
+    (same-outcome (packet-judged _ _ _ _ (sym (e .before .is-damaged .ensures) ∙ e .if1 .left) ∙ packet-with _ _ _ _ _ (p .1 .1)) (t .take-packet .ensures))
 
 pub hear-data-spec : {M : Type 1} → statement M
 hear-data-spec =

@@ -1,9 +1,11 @@
 -- `hearing::following::hear_next` meets its contract. Assumes nothing.
-use mathlib.Core.Path.{_≡_, sym, _∙_}
+use mathlib.Core.Path.{_≡_, sym, ap, _∙_}
+use lib.ListN.{length}
 use denote.Ref.{now}
 use Rattle.frame.specs.Reading.{readFrame}
 use Rattle.frame.proofs.OnePaper.{read-known}
-use Rattle.frame.proofs.Said.{data-said}
+use Rattle.frame.proofs.Payload.{part-payload}
+use Rattle.frame.proofs.Said.{HandedOn, data-said, handed-on}
 use Rattle.reception.proofs.KeptAsHeld.{matched-lists}
 use Rattle.hearing.proofs.Judged.{frame-read, packet-judged, closing-judged, closing-only, unread}
 use Rattle.hearing.proofs.SpanKept.{follows-still, same-follows}
@@ -25,13 +27,27 @@ enum-known-read c = search needs
 enum-known-read-2 : tie.Need-enum-known-read-2
 enum-known-read-2 c = search needs
 
+-- what the frame hands on
+part : (c : tie.After-read2) → HandedOn (now (c .before .before .before .before .before .before .before .args .frame)) (c .read2 .given .0 .0)
+part c = handed-on _ _ (told (c .before .before) ∙ c .read2 .given .1)
+
+sub-next-packet : tie.Need-sub-next-packet
+sub-next-packet c = omega (arith, part (c .before .before .before .before) .there)
+
+part-next-packet-start : tie.Need-part-next-packet-start
+part-next-packet-start c = omega (arith, part (c .before .before .before .before) .there)
+
+part-next-packet-end : tie.Need-part-next-packet-end
+part-next-packet-end c = omega (arith, part (c .before .before .before .before) .there)
+
 next-packet-requires : tie.Need-next-packet-requires
 next-packet-requires c κs =
-    let r = c .before .before .before .before in
+    let r = c .before .before .before .before .before in
     let f = r .before .before in
     let p = f .before .before .before .before .before .pre in
     let d = data-said _ _ (told f ∙ r .read2 .given .1) in
-    (p .0, (p .1 .0, (p .1 .1 .0, (p .1 .1 .1, (omega (arith, d .number), omega (arith, d .number, d .elapsed), omega (arith, d .short))))))
+    let l = part r .recorded ∙ ap length (sym (part-payload _)) in
+    (p .0, (p .1 .0, (p .1 .1 .0, (p .1 .1 .1, (omega (arith, d .number), omega (arith, d .number, d .elapsed), omega (arith, l, d .short), l)))))
 
 enum-known-read-3 : tie.Need-enum-known-read-3
 enum-known-read-3 c = search needs
@@ -64,7 +80,7 @@ same-length-3 c = search needs
 returns-2 : tie.Need-returns-2
 returns-2 c =
     let w = c .before .before .before .before .before .before in
-    let r = w .before .before .before .before .before in
+    let r = w .before .before .before .before .before .before in
     let f = r .before .before in
     let p = f .before .before .before .before .before .pre in
     same-follows (frame-read _ _ _ _ _ (matched-lists _ _ _ (p .0)) (told f ∙ r .read2 .given .1) ∙ packet-judged _ _ _ _ (p .1 .1 .1)) (w .next-packet .ensures)
@@ -108,6 +124,9 @@ hear-next-spec =
     read-frame-requires
     enum-known-read
     enum-known-read-2
+    sub-next-packet
+    part-next-packet-start
+    part-next-packet-end
     next-packet-requires
     enum-known-read-3
     next-closing-requires

@@ -1,6 +1,6 @@
 -- `hearing::following::next_packet` meets its contract. Assumes nothing.
-use Rattle.hearing.proofs.Judged.{explained}
-use Rattle.hearing.proofs.SpanKept.{follows-packet}
+use Rattle.hearing.proofs.Judged.{explained, packet-with}
+use Rattle.hearing.proofs.SpanKept.{follows-packet, same-follows}
 use native.Mathlib.Omega.{arith}
 use borrow.Author.Needs.{needs}
 use Rattle.hearing.proofs.following.next_packet.Statement.{statement}
@@ -11,13 +11,13 @@ cast-k c = search needs
 
 take-packet-requires : tie.Need-take-packet-requires
 take-packet-requires c κs =
-    let p = c .before .before .before .before .before .before .before .pre in
+    let p = c .before .before .before .before .before .before .before .before .pre in
     (p .0, (p .1 .0, (p .1 .1 .0, (explained _ _ (p .1 .1 .1 .0), (p .1 .1 .1 .1 .1, p .1 .1 .1 .1 .2)))))
 
 follow-requires : tie.Need-follow-requires
 follow-requires c κs =
     let t = c .before .before .before .before .before .before in
-    let p = t .before .before .before .before .before .before .before .before .pre in
+    let p = t .before .before .before .before .before .before .before .before .before .pre in
     omega (arith, p .1 .1 .1 .1 .0)
 
 same-length : tie.Need-same-length
@@ -32,8 +32,9 @@ same-length-3 c = search needs
 returns : tie.Need-returns
 returns c =
     let t = c .before .before .before .before .before .before .before in
-    let p = t .before .before .before .before .before .before .before .before .pre in
-    rw (c .follow .ensures) (follows-packet _ _ _ _ _ _ _ _ _ (t .take-packet .ensures) (p .1 .0) (p .1 .1 .0))
+    let p = t .before .before .before .before .before .before .before .before .before .pre in
+    rw (c .follow .ensures)
+    (same-follows (packet-with _ _ _ _ _ (p .1 .1 .1 .1 .3)) (follows-packet _ _ _ _ _ _ _ _ _ (t .take-packet .ensures) (p .1 .0) (p .1 .1 .0)))
 
 pub next-packet-spec : {M : Type 1} → statement M
 next-packet-spec =

@@ -20,7 +20,7 @@ returns-2 c =
 packet-contradicts-requires : tie.Need-packet-contradicts-requires
 packet-contradicts-requires c κs =
     let h = c .before .before .before in
-    let p = h .before .before .before .before .before .before .pre in
+    let p = h .before .before .before .before .before .before .before .pre in
     (p .0, (p .1 .0, (p .1 .1 .0, (p .1 .1 .1 .0, (h .if2 .left, p .1 .1 .1 .1 .0, omega (arith, p .1 .1 .1 .1 .1))))))
 
 same-length : tie.Need-same-length
