@@ -8,7 +8,7 @@ use lib.ListN.{length, replicate, length-replicate}
 use Rattle.reception.specs.declared.Head.{Head}
 use Rattle.reception.specs.Hearing.{openHead}
 use Rattle.hearing.specs.declared.contradicting.Span.{Span}
-use Rattle.several.proofs.WholeSequence.{empty-undamaged, empty-before, empty-from}
+use Rattle.hearing.proofs.EmptyRecord.{empty-undamaged, empty-before, empty-from}
 use Rattle.printout.specs.declared.Going.{Going}
 use Rattle.printout.specs.Printed.{nothingYet}
 use Rattle.printout.specs.Stepping.{betweenIn, Ready}

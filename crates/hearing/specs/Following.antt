@@ -1,8 +1,11 @@
 -- What goes on beside a record that is known to be undamaged: the places in which packets were heard, kept up frame by frame, and what
 -- hearing the next frame promises. Assumes nothing.
-use Prim.Native.Nat.{ℕ, _+_}
+use Prim.Native.Nat.{ℕ, _+_, _≤_, _<_}
+use mathlib.Core.Path.{_≡_}
+use mathlib.Core.Logic.{_⊎_}
 use mathlib.Core.List.{List}
 use lib.Dec.{ltb, leb}
+use lib.ListN.{length, getD}
 use Rattle.fields.specs.Choice.{_when_otherwise_}
 use Rattle.reception.specs.declared.Taken.{Taken}
 use Rattle.reception.specs.declared.Taken.the-variants.{Done, Refused}
@@ -30,3 +33,15 @@ pub record Follows (t : Outcome) (r : Following) (marks elapsed sizes : List ℕ
   pub taken : Takes t (record { answer = r .answer; head = r .head }) marks elapsed sizes
   pub before : NoneBefore marks (r .span .first)
   pub from-end : NoneFrom marks (r .span .end)
+
+-- a list of n places, with zeros before place k and from the place end on
+pub record Cleared (n : ℕ) (s : List ℕ) (k end : ℕ) : Type 0 where
+  pub long : length s ≡ n
+  pub zeros : (j : ℕ) → (j < k) ⊎ (end ≤ j) → getD s j 0 ≡ 0
+
+-- "Unheard numbers hold zeros": outside of the span every place does
+pub record ZerosOutside (s : Span) (marks elapsed sizes : List ℕ) : Type 0 where
+  pub inside : s .end ≤ length marks
+  pub marks-zero : Cleared (length marks) marks (s .first) (s .end)
+  pub elapsed-zero : Cleared (length marks) elapsed (s .first) (s .end)
+  pub sizes-zero : Cleared (length marks) sizes (s .first) (s .end)

@@ -4,7 +4,6 @@ pub mod following;
 pub mod looking;
 pub mod taking;
 
-use contradicting::Span;
 use damage::lists_differ;
 use frame::ClosingPdu;
 use frame::DataPdu;
@@ -18,6 +17,7 @@ use taking::open_head;
 use taking::refused;
 use taking::take_closing;
 use taking::take_packet;
+use taking::whole;
 use units::limits::LAST_STAMP;
 use units::refusals::CAPACITIES_DIFFER;
 use units::refusals::RECORD_DAMAGED;
@@ -52,16 +52,6 @@ pub fn fresh(
     Taking {
         answer: Taken::Done,
         head: open_head(bearer, period, stamp),
-    }
-}
-
-// A span that leaves no place out.
-fn whole(capacity: usize) -> Span
-    ensures { λ r. ⌜ r ≡ record { first = 0; end = capacity } ⌝ }
-{
-    Span {
-        first: 0,
-        end: capacity,
     }
 }
 

@@ -8,6 +8,7 @@ ghost use Rattle.reception.specs.Sendings.{heldIn};
 ghost use Rattle.reception.specs.Walk.{isExplained};
 ghost use Rattle.reception.specs.Damage.{Matched};
 ghost use Rattle.reception.specs.Neighbours.{NoneBefore, NoneFrom};
+ghost use Rattle.hearing.specs.Following.{ZerosOutside};
 ghost use Rattle.reception.specs.Hearing.{keptIn, keeps, takenOf, dataPdu, openHead, hearPacket, hearClosing, Takes};
 use crate::contradicting::Span;
 use crate::contradicting::closing_contradicts;
@@ -49,6 +50,33 @@ pub fn open_head(bearer: u32, period: u32, stamp: u32) -> Head
     }
 }
 
+// A span that leaves no place out.
+pub fn whole(capacity: usize) -> Span
+    ensures { λ r. ⌜ r ≡ record { first = 0; end = capacity } ⌝ }
+{
+    Span {
+        first: 0,
+        end: capacity,
+    }
+}
+
+// Zeros in every place of a span; outside of it they are there already.
+pub fn clear_heard(span: Span, marks: &mut [u8], elapsed: &mut [u32], sizes: &mut [u16])
+    requires { ⌜ ZerosOutside span (now marks) (now elapsed) (now sizes) ⌝ }
+    ensures { λ _. ⌜ (now (marks .exit) ≡ replicate (length (now (marks .entry))) 0)
+        × (now (elapsed .exit) ≡ replicate (length (now (marks .entry))) 0)
+        × (now (sizes .exit) ≡ replicate (length (now (marks .entry))) 0) ⌝ }
+{
+    let end = span.end;
+    let mut k = span.first;
+    while k < end {
+        marks[k] = 0;
+        elapsed[k] = 0;
+        sizes[k] = 0;
+        k += 1;
+    }
+}
+
 // Zeros in every place.
 pub fn clear(marks: &mut [u8], elapsed: &mut [u32], sizes: &mut [u16])
     requires { ⌜ Matched (now marks) (now elapsed) (now sizes) ⌝ }
@@ -56,13 +84,7 @@ pub fn clear(marks: &mut [u8], elapsed: &mut [u32], sizes: &mut [u16])
         × (now (elapsed .exit) ≡ replicate (length (now (marks .entry))) 0)
         × (now (sizes .exit) ≡ replicate (length (now (marks .entry))) 0) ⌝ }
 {
-    let mut k: usize = 0;
-    while k < marks.len() {
-        marks[k] = 0;
-        elapsed[k] = 0;
-        sizes[k] = 0;
-        k += 1;
-    }
+    clear_heard(whole(marks.len()), marks, elapsed, sizes);
 }
 
 // An answer by its number, 0 or a refusal's, and the head as it was.

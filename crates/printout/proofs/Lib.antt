@@ -1,4 +1,3 @@
-pub mod Cleared
 pub mod Stepped
 pub mod WholeExample
 pub mod WholeText

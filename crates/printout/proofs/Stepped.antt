@@ -25,7 +25,7 @@ use Rattle.reception.proofs.OnePaper.{taken-known}
 use Rattle.hearing.specs.declared.contradicting.Span.{Span}
 use Rattle.hearing.specs.declared.following.Following.{Following}
 use Rattle.hearing.specs.Following.{Follows}
-use Rattle.several.proofs.WholeSequence.{empty-undamaged, empty-before, empty-from}
+use Rattle.hearing.proofs.EmptyRecord.{empty-undamaged, empty-before, empty-from}
 use Rattle.telling.specs.Account.{accountText, refusedLine, badLine}
 use Rattle.printout.specs.declared.Going.{Going}
 use Rattle.printout.specs.declared.Went.{Went}

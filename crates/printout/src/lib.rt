@@ -1,10 +1,8 @@
 // The printed account, item by item: what one item prints and leaves.
-mod clearing;
-
-use clearing::clear_heard;
 use hearing::contradicting::Span;
 use hearing::following::empty_span;
 use hearing::following::hear_next;
+use hearing::taking::clear_heard;
 use hearing::taking::open_head;
 use items::Item;
 use items::Key;
@@ -78,7 +76,7 @@ fn begin(
         r (now (marks .exit)) (now (elapsed .exit)) (now (sizes .exit)) (now (out .entry)) at (now (out .exit)) ⌝ }
 {
     let end = account_before(g, marks, elapsed, sizes, out, at);
-    clear_heard(g, marks, elapsed, sizes);
+    clear_heard(g.span, marks, elapsed, sizes);
     Went {
         going: Going {
             begun: true,

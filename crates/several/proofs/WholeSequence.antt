@@ -1,24 +1,18 @@
--- A whole sequence heard at once: its refusals in their order, and the empty record that it begins with. Assumes nothing.
-use Prim.Native.Nat.{ℕ, suc, _-_, _≤_, _<_}
+-- A whole sequence heard at once: its refusals in their order, and what is taken. Assumes nothing.
+use Prim.Native.Nat.{ℕ, suc, _≤_, _<_}
 use mathlib.Core.Path.{_≡_, refl, ap, _∙_}
 use mathlib.Core.Bool.{true, false}
 use mathlib.Core.List.{List, [], _∷_}
-use native.Mathlib.Omega.{arith}
-use lib.ListN.{length, replicate}
+use lib.ListN.{length}
 use borrow.Author.Tests.{lt-ltb, le-ltb}
-use Rattle.units.specs.Limits.{lastStamp, mostCapacity}
+use Rattle.units.specs.Limits.{lastStamp}
 use Rattle.units.specs.Refusals.{stampTooHigh, noRoom, capacitiesDiffer}
 use Rattle.reception.specs.declared.Head.{Head}
 use Rattle.reception.specs.declared.Taken.{Taken}
 use Rattle.reception.specs.declared.Taken.the-variants.{Done}
 use Rattle.reception.specs.declared.Taking.{Taking}
-use Rattle.reception.specs.Damage.{Matched}
-use Rattle.reception.specs.Neighbours.{NoneBefore, NoneFrom}
-use Rattle.reception.specs.Hearing.{Kept, keptIn, Outcome, refuses, takes, keeps, unmatched, damagedKept, openHead, emptyKept}
+use Rattle.reception.specs.Hearing.{Kept, Outcome, refuses, takes, keeps, unmatched, emptyKept}
 use Rattle.reception.specs.Several.{hearAll, answers, framesIn, hearSequence}
-use Rattle.reception.proofs.KeptAsHeld.{read-zeros}
-use Rattle.reception.proofs.WhatHearingAdds.{sound-lists}
-use Rattle.reception.proofs.HearingUndamaged.{empty-sound}
 use Rattle.hearing.proofs.Answered.{refused-as}
 use Rattle.several.specs.Rest.{HearsAll, HearsSequence}
 
@@ -61,21 +55,3 @@ pub sequence-heard : (k : Kept) (bearer period : ℕ) (frames : List (List ℕ))
     → HearsSequence t (answers k bearer period frames) old (record { answer = Done; head = h }) marks elapsed sizes new
 sequence-heard k bearer period frames old h marks elapsed sizes new e p =
     record { taken = record { says = rw e refl; leaves = p .leaves ∙ rw e refl }; numbers = p .numbers ∙ rw e refl }
-
--- what is known of the empty record
-module _ (bearer period stamp n : ℕ) (s : stamp ≤ lastStamp) (le : n ≤ mostCapacity) (h : Head) (marks elapsed sizes : List ℕ)
-    (hh : h ≡ openHead bearer period stamp) (m : marks ≡ replicate n 0) (e : elapsed ≡ replicate n 0) (z : sizes ≡ replicate n 0) where
-  pub empty-is : keptIn h marks elapsed sizes ≡ emptyKept bearer period stamp n
-  empty-is = rw (hh, m, e, z) refl
-
-  pub empty-lists : Matched marks elapsed sizes
-  empty-lists = rw (m, e, z) (sound-lists (emptyKept bearer period stamp n) (empty-sound bearer period stamp n s le))
-
-  pub empty-undamaged : damagedKept (keptIn h marks elapsed sizes) ≡ false
-  empty-undamaged = rw (hh, m, e, z) (empty-sound bearer period stamp n s le .undamaged)
-
-  pub empty-before : (first : ℕ) → NoneBefore marks first
-  empty-before first = rw m (record { none = λ j lt one. let q = read-zeros n j in omega (arith, q, one) })
-
-  pub empty-from : NoneFrom marks 0
-  empty-from = rw m (record { inside = omega arith; none = λ j lt one. let q = read-zeros n j in omega (arith, q, one) })

@@ -4,7 +4,8 @@ use lib.ListN.{length}
 use denote.Ref.{now}
 use Rattle.reception.specs.Damage.{Matched}
 use Rattle.reception.proofs.KeptAsHeld.{lists-matched}
-use Rattle.several.proofs.WholeSequence.{sequence-unmatched, sequence-high, sequence-no-room, sequence-taken, sequence-refused, sequence-heard, empty-is, empty-lists, empty-undamaged, empty-before, empty-from}
+use Rattle.hearing.proofs.EmptyRecord.{empty-is, empty-lists, empty-undamaged, empty-before, empty-from}
+use Rattle.several.proofs.WholeSequence.{sequence-unmatched, sequence-high, sequence-no-room, sequence-taken, sequence-refused, sequence-heard}
 use borrow.Author.Needs.{needs}
 use Rattle.several.proofs.hear_sequence.Statement.{statement}
 use Rattle.several.proofs.hear_sequence.Tie as tie

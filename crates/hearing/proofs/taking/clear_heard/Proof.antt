@@ -1,15 +1,16 @@
--- `printout::clearing::clear_heard` meets its contract. Assumes nothing.
+-- `hearing::taking::clear_heard` meets its contract. Assumes nothing.
 use Prim.Native.Nat.{_-_, _≤_}
-use Rattle.printout.specs.Printed.{places}
-use Rattle.printout.proofs.Cleared.{Cleared, marks-start, elapsed-start, sizes-start, inside, one-cleared, all-cleared}
+use lib.ListN.{length}
+use Rattle.hearing.specs.Following.{Cleared}
+use Rattle.hearing.proofs.Cleared.{one-cleared, all-cleared}
 use borrow.Author.Needs.{needs}
 use native.Mathlib.Omega.{arith}
-use Rattle.printout.proofs.clearing.clear_heard.Statement.{statement}
-use Rattle.printout.proofs.clearing.clear_heard.Tie as tie
+use Rattle.hearing.proofs.taking.clear_heard.Statement.{statement}
+use Rattle.hearing.proofs.taking.clear_heard.Tie as tie
 
 abbrev Inv-loop : tie.InvT-loop
 Inv-loop marks₀ elapsed₀ sizes₀ end k₀ marks elapsed sizes k =
-    (end ≤ places) × Cleared places marks k end × Cleared places elapsed k end × Cleared places sizes k end
+    (end ≤ length marks₀) × Cleared (length marks₀) marks k end × Cleared (length marks₀) elapsed k end × Cleared (length marks₀) sizes k end
 
 abbrev μ-loop : tie.MeasureT-loop
 μ-loop marks₀ elapsed₀ sizes₀ end k₀ marks elapsed sizes k = end - k
@@ -17,7 +18,7 @@ abbrev μ-loop : tie.MeasureT-loop
 loop-holds : tie.Need-loop-holds Inv-loop μ-loop
 loop-holds c =
     let y = c .pre in
-    (inside _ _ _ _ y, marks-start _ _ _ _ y, elapsed-start _ _ _ _ y, sizes-start _ _ _ _ y)
+    (y .inside, y .marks-zero, y .elapsed-zero, y .sizes-zero)
 
 slice-write-marks : tie.Need-slice-write-marks Inv-loop μ-loop
 slice-write-marks c = let i = c .before .loop .inv in omega (arith, i .1 .long, i .0, c .loop-test .taken)
