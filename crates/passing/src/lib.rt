@@ -1,8 +1,13 @@
 // Items one after another, from the front of what was read: as long as an item cannot be cut there, and what it prints has room.
 use printout::Going;
+use printout::PLACES;
 use printout::Went;
 use printout::account_before;
 use printout::step;
+use telling::END_LINE;
+use telling::FIGURE_LINES;
+use telling::GAP_LINE;
+use telling::SEQUENCE_LINE;
 ghost use mathlib.Core.Path.{_≡_};
 ghost use mathlib.Core.Bool.{false};
 ghost use Prim.Native.Nat.{_-_};
@@ -10,8 +15,8 @@ ghost use lib.ListN.{length};
 ghost use Rattle.printout.specs.Stepping.{betweenIn, Ready};
 ghost use Rattle.passing.specs.Passing.{goesOn, Passed, Waits};
 
-// The most octets that one item prints.
-const MOST_TEXT: usize = 275011;
+// The most octets that one item prints, an account: a gap may stand at each place and behind the last.
+const MOST_TEXT: usize = SEQUENCE_LINE + FIGURE_LINES + GAP_LINE * (PLACES + 1) + END_LINE;
 
 // The least octets among which the first item is never cut.
 const LONGEST_ITEM: usize = 8196;

@@ -13,15 +13,15 @@ use Rattle.items.specs.Items.{itemOf, sizeOf}
 use Rattle.reception.specs.declared.Taken.{Taken}
 use Rattle.reception.specs.declared.Taken.the-variants.{Done, Refused}
 use Rattle.reception.specs.Hearing.{Kept, Outcome, emptyKept, hearFrame}
-use Rattle.telling.specs.Account.{accountText, refusedLine, badLine}
+use Rattle.telling.specs.Account.{accountText, refusedLine, badLine, mostAccount}
 
 -- "a sequence of capacity 4,096"
 abbrev pub places : ℕ
 places = 4096
 
--- octets in which what one item prints has room: the longest text is an account of that many places
+-- the most octets that one item prints: the longest text is an account of that many places
 abbrev pub mostText : ℕ
-mostText = 275011
+mostText = mostAccount places
 
 -- items and octets are counted in 64 bits
 abbrev pub counted : ℕ → ℕ

@@ -22,6 +22,9 @@ ghost use Rattle.telling.specs.Account.{badLine};
 ghost use Rattle.printout.specs.Printed.{accountBefore, answerText, keyStep, frameStep, heardIn, mostText, stepOf, usedBy};
 ghost use Rattle.printout.specs.Stepping.{betweenIn, Ready, Steps};
 
+// The places of the record of a sequence.
+pub const PLACES: usize = 4096;
+
 // What is there between two items, beside the three lists of the record: whether a sequence was begun, the record's head and the
 // places in which packets were heard, and how many items and octets went before.
 pub struct Going {

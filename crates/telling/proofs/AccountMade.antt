@@ -19,7 +19,7 @@ use Rattle.reception.specs.Hearing.{Kept, keptIn, heldBy, damagedKept}
 use Rattle.reception.specs.Reporting.{Gap, gapTo, gapsFrom, gapsOf, sentPackets, reportOf}
 use Rattle.reception.proofs.ReportAccounts.{undamaged-sent}
 use Rattle.reporting.proofs.CountedReport.{sound}
-use Rattle.telling.specs.Account.{sequenceWord, closedWord, openWord, gapWord, sentWord, heardWord, missingWord, endWord, sequenceLine, gapLines, figureLines, accountText}
+use Rattle.telling.specs.Account.{sequenceWord, closedWord, openWord, gapWord, sentWord, heardWord, missingWord, endWord, sequenceLine, gapLines, figureLines, accountText, mostAccount}
 use Rattle.telling.specs.Parts.{figuresOf}
 
 -- no more packets were sent than the record has places
@@ -91,7 +91,7 @@ figures-length r =
     simp length-append (omega (arith, line-length sentWord s, line-length heardWord h, line-length missingWord m))
 
 -- the whole account, by the places of the record
-pub account-length : (k : Kept) → Matched (k .marks) (k .elapsed) (k .sizes) → damagedKept k ≡ false → length (accountText k) ≤ 512 + 67 * (length (k .marks) + 1)
+pub account-length : (k : Kept) → Matched (k .marks) (k .elapsed) (k .sizes) → damagedKept k ≡ false → length (accountText k) ≤ mostAccount (length (k .marks))
 unfolding accountText
 account-length k m d =
     let gs = gapsOf (heldBy k) in

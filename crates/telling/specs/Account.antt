@@ -1,7 +1,8 @@
 -- The text of an account (document 01, "The printed account"): octets of ASCII, line by line. Assumes nothing.
-use Prim.Native.Nat.{ℕ}
+use Prim.Native.Nat.{ℕ, _+_, _*_}
 use mathlib.Core.Bool.{cond}
 use mathlib.Core.List.{List, [], _∷_, _++_}
+use lib.ListN.{length}
 use Rattle.lines.specs.Text.{fieldsOf, line}
 use Rattle.reception.specs.declared.Head.{Head}
 use Rattle.reception.specs.Sendings.{Held}
@@ -68,3 +69,15 @@ refusedLine place number = line refusedWord (place ∷ number ∷ [])
 -- "prints "bad input" and the item's offset in octets from 0"
 abbrev pub badLine : ℕ → List ℕ
 badLine offset = line badWord (offset ∷ [])
+
+-- the most octets of a line with so many numbers: each has at most 20 digits and a space before it; one ends the line
+abbrev pub mostLine : List ℕ → ℕ → ℕ
+mostLine word numbers = length word + (1 + 20) * numbers + 1
+
+-- the most octets of an account by the record's places: a gap may stand at each place and behind the last
+abbrev pub mostAccount : ℕ → ℕ
+mostAccount places =
+    (mostLine sequenceWord 3 + length closedWord)
+    + (mostLine sentWord 2 + mostLine heardWord 2 + mostLine missingWord 2)
+    + mostLine gapWord 3 * (places + 1)
+    + mostLine endWord 0

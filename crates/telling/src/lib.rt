@@ -15,13 +15,25 @@ use reception::Head;
 use reporting::counting::count;
 ghost use mathlib.Core.Path.{_≡_};
 ghost use mathlib.Core.Bool.{false};
-ghost use Prim.Native.Nat.{_+_, _*_, _≤_};
+ghost use Prim.Native.Nat.{_+_, _≤_};
 ghost use lib.ListN.{length};
 ghost use Rattle.lines.specs.Text.{Puts};
 ghost use Rattle.reception.specs.Damage.{Matched};
 ghost use Rattle.reception.specs.Neighbours.{NoneFrom};
 ghost use Rattle.reception.specs.Hearing.{keptIn, damagedKept};
-ghost use Rattle.telling.specs.Account.{accountText, refusedLine, badLine};
+ghost use Rattle.telling.specs.Account.{accountText, refusedLine, badLine, mostAccount};
+
+// The most octets of a number: a space, and 20 digits.
+const NUMBER: usize = 1 + 20;
+
+// The most octets of each kind of line in an account: words, numbers, and the line's end.
+pub const SEQUENCE_LINE: usize = 8 + 3 * NUMBER + 7 + 1;
+
+pub const FIGURE_LINES: usize = (4 + 2 * NUMBER + 1) + (5 + 2 * NUMBER + 1) + (7 + 2 * NUMBER + 1);
+
+pub const GAP_LINE: usize = 3 + 3 * NUMBER + 1;
+
+pub const END_LINE: usize = 3 + 1;
 
 // The account of an undamaged record in which nothing was heard from the place last on: its sequence, its figures, its gaps, and the
 // end.
@@ -37,9 +49,9 @@ pub fn put_account(
     requires { ⌜ Matched (now marks) (now elapsed) (now sizes) ⌝ }
     requires { ⌜ NoneFrom (now marks) last ⌝ }
     requires { ⌜ damagedKept (keptIn h (now marks) (now elapsed) (now sizes)) ≡ false ⌝ }
-    requires { ⌜ at + 512 + 67 * (length (now marks) + 1) ≤ length (now out) ⌝ }
+    requires { ⌜ at + mostAccount (length (now marks)) ≤ length (now out) ⌝ }
     ensures { λ r. ⌜ Puts (accountText (keptIn h (now (marks .entry)) (now (elapsed .entry)) (now (sizes .entry)))) (now (out .entry)) at r (now (out .exit)) ⌝ }
-    ensures { λ r. ⌜ r ≤ at + 512 + 67 * (length (now (marks .entry)) + 1) ⌝ }
+    ensures { λ r. ⌜ r ≤ at + mostAccount (length (now (marks .entry))) ⌝ }
 {
     let r = count(h, last, marks, elapsed, sizes);
     let n = r.sent.0 as usize;
