@@ -6,7 +6,12 @@ ghost use Rattle.reception.specs.Sendings.{heldIn};
 ghost use Rattle.reception.specs.Walk.{reach, fits, mayEnd};
 ghost use Rattle.reception.specs.Hearing.{listsDiffer, otherKey};
 ghost use Rattle.reception.specs.Damage.{Matched, placeWrong, closingOff, walkFails, damagedRecord};
+use fields::widths::from_u8;
+use fields::widths::from_u16;
+use fields::widths::from_u32;
 use reception::Head;
+use units::Octets;
+use units::Packets;
 use units::limits::LAST_STAMP;
 use units::limits::MOST_CAPACITY;
 use units::limits::MOST_PAYLOAD;
@@ -24,57 +29,37 @@ pub fn lists_differ(marks: usize, elapsed: usize, sizes: usize) -> bool
     sizes != marks
 }
 
-// Octets as the places of a record hold them, with the bounds that a sum of them needs.
-pub fn from_u32(x: u32) -> u64
-    ensures { λ r. ⌜ (r ≡ x) × (r < 4294967296) ⌝ }
-{
-    x as u64
-}
-
-pub fn from_u16(x: u16) -> u64
-    ensures { λ r. ⌜ (r ≡ x) × (r < 65536) ⌝ }
-{
-    x as u64
-}
-
-pub fn from_u8(x: u8) -> u64
-    ensures { λ r. ⌜ (r ≡ x) × (r < 256) ⌝ }
-{
-    x as u64
-}
-
 // Where packet i has a octets before it, packet k can have e.
-fn reaches(i: u64, a: u64, k: u64, e: u64) -> bool
-    requires { ⌜ (i ≤ k) × (k < 4294967296) ⌝ }
-    ensures { λ r. ⌜ r ≡ reach i a k e ⌝ }
+fn reaches(i: Packets, a: Octets, k: Packets, e: Octets) -> bool
+    requires { ⌜ i .0 ≤ k .0 ⌝ }
+    ensures { λ r. ⌜ r ≡ reach (i .0) (a .0) (k .0) (e .0) ⌝ }
 {
-    if e < a {
+    if e.0 < a.0 {
         return false;
     }
-    e - a <= MOST_PAYLOAD * (k - i)
+    e.0 - a.0 <= MOST_PAYLOAD * from_u32(k.0 - i.0)
 }
 
 // A packet k of length l at e octets can come after packets that end before number i, at a octets.
-pub fn is_fit(i: u64, a: u64, k: u64, e: u64, l: u64) -> bool
-    requires { ⌜ (i ≤ k) × (k < 4294967296) ⌝ }
-    ensures { λ r. ⌜ r ≡ fits i a k e l ⌝ }
+pub fn is_fit(i: Packets, a: Octets, k: Packets, e: Octets, l: Octets) -> bool
+    requires { ⌜ i .0 ≤ k .0 ⌝ }
+    ensures { λ r. ⌜ r ≡ fits (i .0) (a .0) (k .0) (e .0) (l .0) ⌝ }
 {
-    if MOST_PAYLOAD < l {
+    if MOST_PAYLOAD < l.0 {
         return false;
     }
     reaches(i, a, k, e)
 }
 
 // So can the closing, where there is one.
-pub fn may_end(h: Head, i: u64, a: u64) -> bool
-    ensures { λ r. ⌜ r ≡ mayEnd (h .closed) (h .count .0) (h .total .0) i a ⌝ }
+pub fn may_end(h: Head, i: Packets, a: Octets) -> bool
+    ensures { λ r. ⌜ r ≡ mayEnd (h .closed) (h .count .0) (h .total .0) (i .0) (a .0) ⌝ }
 {
     if h.closed {
-        let n = h.count.0 as u64;
-        if n < i {
+        if h.count.0 < i.0 {
             return false;
         }
-        return reaches(i, a, n, h.total.0);
+        return reaches(i, a, h.count, h.total);
     }
     true
 }
@@ -94,18 +79,18 @@ fn walk_fails(h: Head, marks: &[u8], elapsed: &[u32], sizes: &[u16]) -> bool
     requires { ⌜ Matched (now marks) (now elapsed) (now sizes) ⌝ }
     ensures { λ r. ⌜ r ≡ walkFails (heldIn h (now (marks .entry)) (now (elapsed .entry)) (now (sizes .entry))) ⌝ }
 {
-    let mut i: u64 = 0;
-    let mut a: u64 = 0;
+    let mut i = Packets(0);
+    let mut a = Octets(0);
     let mut k: usize = 0;
     while k < marks.len() {
         if marks[k] == 1 {
             let e = from_u32(elapsed[k]);
             let l = from_u16(sizes[k]);
-            if !is_fit(i, a, k as u64, e, l) {
+            if !is_fit(i, a, Packets(k as u32), Octets(e), Octets(l)) {
                 return true;
             }
-            i = k as u64 + 1;
-            a = e + l;
+            i = Packets(k as u32 + 1);
+            a = Octets(e + l);
         } else {
             if place_wrong(marks[k], elapsed[k], sizes[k]) {
                 return true;

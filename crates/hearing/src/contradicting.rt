@@ -10,10 +10,10 @@ ghost use Rattle.reception.specs.Adding.{differ, packetContradicts, closedHead,
 ghost use Rattle.reception.specs.Neighbours.{NoneBefore, NoneFrom};
 use crate::looking::end_below;
 use crate::looking::next_fits;
-use damage::from_u16;
-use damage::from_u32;
 use damage::is_fit;
 use damage::may_end;
+use fields::widths::from_u16;
+use fields::widths::from_u32;
 use reception::Head;
 use units::Octets;
 use units::Packets;
@@ -56,7 +56,7 @@ pub fn packet_contradicts(
         return differs(from_u32(elapsed[k]), from_u16(sizes[k]), e, l);
     }
     let b = end_below(span.first, marks, elapsed, sizes, k);
-    if !is_fit(b.number, b.octets, k as u64, e, l) {
+    if !is_fit(b.number, b.octets, Packets(k as u32), Octets(e), Octets(l)) {
         return true;
     }
     !next_fits(
@@ -66,8 +66,8 @@ pub fn packet_contradicts(
         elapsed,
         sizes,
         k + 1,
-        k as u64 + 1,
-        e + l,
+        Packets(k as u32 + 1),
+        Octets(e + l),
     )
 }
 

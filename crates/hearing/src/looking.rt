@@ -6,16 +6,18 @@ ghost use lib.ListN.{length};
 ghost use Rattle.reception.specs.Sendings.{heldIn};
 ghost use Rattle.reception.specs.Damage.{Matched};
 ghost use Rattle.reception.specs.Neighbours.{EndBelow, NoneBefore, NoneFrom, nextFits};
-use damage::from_u16;
-use damage::from_u32;
 use damage::is_fit;
 use damage::may_end;
+use fields::widths::from_u16;
+use fields::widths::from_u32;
 use reception::Head;
+use units::Octets;
+use units::Packets;
 
 // Where packets end: the number after them, and the octets before it.
 pub struct End {
-    pub number: u64,
-    pub octets: u64,
+    pub number: Packets,
+    pub octets: Octets,
 }
 
 // The end of the last packet heard below k.
@@ -23,7 +25,7 @@ pub fn end_below(first: usize, marks: &[u8], elapsed: &[u32], sizes: &[u16], k: 
     requires { ⌜ Matched (now marks) (now elapsed) (now sizes) ⌝ }
     requires { ⌜ NoneBefore (now marks) first ⌝ }
     requires { ⌜ k ≤ length (now marks) ⌝ }
-    ensures { λ r. ⌜ EndBelow (now (marks .entry)) (now (elapsed .entry)) (now (sizes .entry)) k (r .number) (r .octets) ⌝ }
+    ensures { λ r. ⌜ EndBelow (now (marks .entry)) (now (elapsed .entry)) (now (sizes .entry)) k (r .number .0) (r .octets .0) ⌝ }
 {
     let mut j = k;
     while first < j {
@@ -31,15 +33,15 @@ pub fn end_below(first: usize, marks: &[u8], elapsed: &[u32], sizes: &[u16], k: 
             let e = from_u32(elapsed[j - 1]);
             let l = from_u16(sizes[j - 1]);
             return End {
-                number: j as u64,
-                octets: e + l,
+                number: Packets(j as u32),
+                octets: Octets(e + l),
             };
         }
         j -= 1;
     }
     End {
-        number: 0,
-        octets: 0,
+        number: Packets(0),
+        octets: Octets(0),
     }
 }
 
@@ -51,18 +53,20 @@ pub fn next_fits(
     elapsed: &[u32],
     sizes: &[u16],
     k: usize,
-    i: u64,
-    a: u64,
+    i: Packets,
+    a: Octets,
 ) -> bool
     requires { ⌜ Matched (now marks) (now elapsed) (now sizes) ⌝ }
     requires { ⌜ NoneFrom (now marks) end ⌝ }
-    requires { ⌜ (k ≤ length (now marks)) × (i ≤ k) ⌝ }
-    ensures { λ r. ⌜ r ≡ nextFits (heldIn h (now (marks .entry)) (now (elapsed .entry)) (now (sizes .entry))) (length (now (marks .entry)) - k) k i a ⌝ }
+    requires { ⌜ (k ≤ length (now marks)) × (i .0 ≤ k) ⌝ }
+    ensures { λ r. ⌜ r ≡ nextFits (heldIn h (now (marks .entry)) (now (elapsed .entry)) (now (sizes .entry))) (length (now (marks .entry)) - k) k (i .0) (a .0) ⌝ }
 {
     let mut j = k;
     while j < end {
         if marks[j] == 1 {
-            return is_fit(i, a, j as u64, from_u32(elapsed[j]), from_u16(sizes[j]));
+            let e = from_u32(elapsed[j]);
+            let l = from_u16(sizes[j]);
+            return is_fit(i, a, Packets(j as u32), Octets(e), Octets(l));
         }
         j += 1;
     }

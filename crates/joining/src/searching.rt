@@ -11,17 +11,19 @@ ghost use Rattle.reception.specs.Damage.{Matched};
 ghost use Rattle.reception.specs.Adding.{packetContradicts};
 ghost use Rattle.reception.specs.Neighbours.{nextFits};
 ghost use Rattle.joining.specs.Beside.{FirstFrom, BesideIs, LowestFound};
-use damage::from_u16;
-use damage::from_u32;
 use damage::is_fit;
 use damage::may_end;
+use fields::widths::from_u16;
+use fields::widths::from_u32;
 use hearing::contradicting::differs;
 use reception::Head;
+use units::Octets;
+use units::Packets;
 
 // Where the last packet heard below a number ends, and the first place from that number on in which one was heard.
 pub struct Beside {
-    pub number: u64,
-    pub octets: u64,
+    pub number: Packets,
+    pub octets: Octets,
     pub next: usize,
 }
 
@@ -43,9 +45,9 @@ fn next_heard(marks: &[u8], from: usize) -> usize
 // Beside the number after k.
 fn moved_on(b: Beside, marks: &[u8], elapsed: &[u32], sizes: &[u16], k: usize) -> Beside
     requires { ⌜ Matched (now marks) (now elapsed) (now sizes) ⌝ }
-    requires { ⌜ BesideIs (now marks) (now elapsed) (now sizes) k (b .number) (b .octets) (b .next) ⌝ }
+    requires { ⌜ BesideIs (now marks) (now elapsed) (now sizes) k (b .number .0) (b .octets .0) (b .next) ⌝ }
     requires { ⌜ k < length (now marks) ⌝ }
-    ensures { λ r. ⌜ BesideIs (now (marks .entry)) (now (elapsed .entry)) (now (sizes .entry)) (k + 1) (r .number) (r .octets) (r .next) ⌝ }
+    ensures { λ r. ⌜ BesideIs (now (marks .entry)) (now (elapsed .entry)) (now (sizes .entry)) (k + 1) (r .number .0) (r .octets .0) (r .next) ⌝ }
 {
     if k < b.next {
         return b;
@@ -53,8 +55,8 @@ fn moved_on(b: Beside, marks: &[u8], elapsed: &[u32], sizes: &[u16], k: usize) -
     let e = from_u32(elapsed[k]);
     let l = from_u16(sizes[k]);
     Beside {
-        number: k as u64 + 1,
-        octets: e + l,
+        number: Packets(k as u32 + 1),
+        octets: Octets(e + l),
         next: next_heard(marks, k + 1),
     }
 }
@@ -67,18 +69,24 @@ fn next_follows(
     elapsed: &[u32],
     sizes: &[u16],
     k: usize,
-    a: u64,
+    a: Octets,
 ) -> bool
     requires { ⌜ Matched (now marks) (now elapsed) (now sizes) ⌝ }
     requires { ⌜ FirstFrom (now marks) (k + 1) next ⌝ }
-    ensures { λ r. ⌜ r ≡ nextFits (heldIn h (now (marks .entry)) (now (elapsed .entry)) (now (sizes .entry))) (length (now (marks .entry)) - (k + 1)) (k + 1) (k + 1) a ⌝ }
+    ensures { λ r. ⌜ r ≡ nextFits (heldIn h (now (marks .entry)) (now (elapsed .entry)) (now (sizes .entry))) (length (now (marks .entry)) - (k + 1)) (k + 1) (k + 1) (a .0) ⌝ }
 {
     if next < marks.len() {
         let e = from_u32(elapsed[next]);
         let l = from_u16(sizes[next]);
-        return is_fit(k as u64 + 1, a, next as u64, e, l);
+        return is_fit(
+            Packets(k as u32 + 1),
+            a,
+            Packets(next as u32),
+            Octets(e),
+            Octets(l),
+        );
     }
-    may_end(h, k as u64 + 1, a)
+    may_end(h, Packets(k as u32 + 1), a)
 }
 
 // Whether a packet k of the right, if it was heard (m), alone contradicts the left.
@@ -95,7 +103,7 @@ fn is_off(
 ) -> bool
     requires { ⌜ Matched (now marks) (now elapsed) (now sizes) ⌝ }
     requires { ⌜ isExplained (heldIn h (now marks) (now elapsed) (now sizes)) ≡ true ⌝ }
-    requires { ⌜ BesideIs (now marks) (now elapsed) (now sizes) k (b .number) (b .octets) (b .next) ⌝ }
+    requires { ⌜ BesideIs (now marks) (now elapsed) (now sizes) k (b .number .0) (b .octets .0) (b .next) ⌝ }
     requires { ⌜ (k < length (now marks)) × (e < 4294967296) × (l < 65536) ⌝ }
     ensures { λ r. ⌜ r ≡ (eqb m 1 && packetContradicts (heldIn h (now (marks .entry)) (now (elapsed .entry)) (now (sizes .entry))) k e l) ⌝ }
 {
@@ -105,10 +113,10 @@ fn is_off(
     if b.next <= k {
         return differs(from_u32(elapsed[k]), from_u16(sizes[k]), e, l);
     }
-    if !is_fit(b.number, b.octets, k as u64, e, l) {
+    if !is_fit(b.number, b.octets, Packets(k as u32), Octets(e), Octets(l)) {
         return true;
     }
-    !next_follows(h, b.next, marks, elapsed, sizes, k, e + l)
+    !next_follows(h, b.next, marks, elapsed, sizes, k, Octets(e + l))
 }
 
 // The lowest packet number of the right that alone contradicts the left, or the capacity where none does.
@@ -128,8 +136,8 @@ pub fn lowest_off(
     ensures { λ r. ⌜ LowestFound h (now (marks .entry)) (now (elapsed .entry)) (now (sizes .entry)) (now («r_marks» .entry)) (now («r_elapsed» .entry)) (now («r_sizes» .entry)) r ⌝ }
 {
     let mut b = Beside {
-        number: 0,
-        octets: 0,
+        number: Packets(0),
+        octets: Octets(0),
         next: next_heard(marks, 0),
     };
     let mut k: usize = 0;

@@ -6,11 +6,11 @@ ghost use Rattle.reception.specs.Damage.{Matched, walkFails, damagedRecord};
 ghost use Rattle.reporting.specs.Judging.{Judges};
 use crate::counting::gap_between;
 use damage::closing_off;
-use damage::from_u16;
-use damage::from_u32;
 use damage::is_fit;
 use damage::may_end;
 use damage::place_wrong;
+use fields::widths::from_u16;
+use fields::widths::from_u32;
 use reception::Head;
 use units::Octets;
 use units::Packets;
@@ -43,20 +43,20 @@ fn walk(h: Head, marks: &[u8], elapsed: &[u32], sizes: &[u16]) -> Judged
     ensures { λ r. ⌜ Judges (walkFails (heldIn h (now (marks .entry)) (now (elapsed .entry)) (now (sizes .entry))))
         (now (marks .entry)) (now (elapsed .entry)) (now (sizes .entry)) r ⌝ }
 {
-    let mut i: u64 = 0;
-    let mut a: u64 = 0;
+    let mut i = Packets(0);
+    let mut a = Octets(0);
     let mut gaps: u32 = 0;
     let mut k: usize = 0;
     while k < marks.len() {
         if marks[k] == 1 {
             let e = from_u32(elapsed[k]);
             let l = from_u16(sizes[k]);
-            if !is_fit(i, a, k as u64, e, l) {
+            if !is_fit(i, a, Packets(k as u32), Octets(e), Octets(l)) {
                 return off();
             }
-            gaps = gaps + gap_between(i as u32, k as u32);
-            i = k as u64 + 1;
-            a = e + l;
+            gaps = gaps + gap_between(i.0, k as u32);
+            i = Packets(k as u32 + 1);
+            a = Octets(e + l);
         } else {
             if place_wrong(marks[k], elapsed[k], sizes[k]) {
                 return off();
@@ -65,8 +65,8 @@ fn walk(h: Head, marks: &[u8], elapsed: &[u32], sizes: &[u16]) -> Judged
         k += 1;
     }
     Judged {
-        end: Packets(i as u32),
-        before: Octets(a),
+        end: i,
+        before: a,
         gaps: gaps,
         damaged: !may_end(h, i, a),
     }

@@ -8,7 +8,7 @@ ghost use Rattle.telling.specs.Account.{closedWord, openWord, endWord, s
 ghost use Rattle.telling.specs.Parts.{figuresOf};
 use crate::parts::put_pair;
 use crate::parts::put_three;
-use damage::from_u32;
+use fields::widths::from_u32;
 use lines::put_end;
 use lines::put_text;
 use reception::Head;

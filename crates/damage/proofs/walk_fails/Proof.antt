@@ -10,7 +10,7 @@ use Rattle.damage.proofs.walk_fails.Statement.{statement}
 use Rattle.damage.proofs.walk_fails.Tie as tie
 
 abbrev Inv-loop : tie.InvT-loop
-Inv-loop h marks elapsed sizes i₀ a₀ k₀ i a k = Walking (heldIn h marks elapsed sizes) k i a
+Inv-loop h marks elapsed sizes i₀ a₀ k₀ i a k = Walking (heldIn h marks elapsed sizes) k (i .0) (a .0)
 
 abbrev μ-loop : tie.MeasureT-loop
 μ-loop h marks elapsed sizes i₀ a₀ k₀ i a k = length marks - k
@@ -39,6 +39,9 @@ shared-slice-read-from-u16 c = search needs
 from-u16-requires : tie.Need-from-u16-requires Inv-loop μ-loop
 from-u16-requires c κs = search needs
 
+cast-t16 : tie.Need-cast-t16 Inv-loop μ-loop
+cast-t16 c = search needs
+
 is-fit-requires : tie.Need-is-fit-requires Inv-loop μ-loop
 is-fit-requires c κs = search needs
 
@@ -49,11 +52,14 @@ returns c =
     let i = p .before .before in
     misfit _ _ _ _ (i .before .loop .inv) (i .loop-test .taken) (p .if1 .taken) _ _ (q .before .before .from-u32 .ensures .0) (q .from-u16 .ensures .0) _ (c .before .is-fit .ensures) (not-true _ (c .if2 .taken))
 
-add-i : tie.Need-add-i Inv-loop μ-loop
-add-i c = search needs
+cast-t16-2 : tie.Need-cast-t16-2 Inv-loop μ-loop
+cast-t16-2 c = search needs
 
-add-a : tie.Need-add-a Inv-loop μ-loop
-add-a c = search needs
+add-t24 : tie.Need-add-t24 Inv-loop μ-loop
+add-t24 c = search needs
+
+add-t25 : tie.Need-add-t25 Inv-loop μ-loop
+add-t25 c = search needs
 
 shared-slice-read-place-wrong : tie.Need-shared-slice-read-place-wrong Inv-loop μ-loop
 shared-slice-read-place-wrong c = search needs
@@ -115,10 +121,12 @@ walk-fails-spec =
     mul-from-u16
     shared-slice-read-from-u16
     from-u16-requires
+    cast-t16
     is-fit-requires
     returns
-    add-i
-    add-a
+    cast-t16-2
+    add-t24
+    add-t25
     shared-slice-read-place-wrong
     mul-place-wrong
     shared-slice-read-place-wrong-2

@@ -42,13 +42,16 @@ end-below-requires c κs =
     let p = c .before .before .before .before .before .pre in
     (p .0, (p .1 .0, omega (arith, p .1 .1 .1 .1)))
 
+cast-t21 : tie.Need-cast-t21
+cast-t21 c = search needs
+
 is-fit-requires : tie.Need-is-fit-requires
 is-fit-requires c κs =
     let s = c .before .before .before .before .before .before in
     let a = s .args in
     let n = c .end-below .ensures .number-is (a .h) in
     let b = end-back (heldIn (a .h) (now (a .marks)) (now (a .elapsed)) (now (a .sizes))) (a .k) in
-    (omega (arith, n, b), omega (arith, s .pre .0 .room, s .pre .1 .1 .1 .1))
+    omega (arith, n, b)
 
 returns-2 : tie.Need-returns-2
 returns-2 c =
@@ -60,11 +63,14 @@ returns-2 c =
 add-next-fits : tie.Need-add-next-fits
 add-next-fits c = search needs
 
-add-next-fits-2 : tie.Need-add-next-fits-2
-add-next-fits-2 c = search needs
+cast-t21-2 : tie.Need-cast-t21-2
+cast-t21-2 c = search needs
 
-add-next-fits-3 : tie.Need-add-next-fits-3
-add-next-fits-3 c = search needs
+add-t27 : tie.Need-add-t27
+add-t27 c = search needs
+
+add-t28 : tie.Need-add-t28
+add-t28 c = search needs
 
 next-fits-requires : tie.Need-next-fits-requires
 next-fits-requires c κs =
@@ -92,11 +98,11 @@ packet-contradicts-spec =
     from-u16-requires
     differs-requires
     returns
-    end-below-requires
+    end-below-requires cast-t21
     is-fit-requires
     returns-2
-    add-next-fits
-    add-next-fits-2
-    add-next-fits-3
+    add-next-fits cast-t21-2
+    add-t27
+    add-t28
     next-fits-requires
     returns-3)

@@ -43,6 +43,9 @@ shared-slice-read-from-u16 c = search needs
 from-u16-requires : tie.Need-from-u16-requires Inv-loop μ-loop
 from-u16-requires c κs = search needs
 
+cast-t16 : tie.Need-cast-t16 Inv-loop μ-loop
+cast-t16 c = search needs
+
 add-t20 : tie.Need-add-t20 Inv-loop μ-loop
 add-t20 c = search needs
 
@@ -82,7 +85,7 @@ end-below-spec =
     sub-from-u16
     mul-from-u16
     shared-slice-read-from-u16
-    from-u16-requires
+    from-u16-requires cast-t16
     add-t20
     returns
     sub-j

@@ -8,7 +8,7 @@ use Rattle.hearing.proofs.looking.next_fits.Statement.{statement}
 use Rattle.hearing.proofs.looking.next_fits.Tie as tie
 
 abbrev Inv-loop : tie.InvT-loop
-Inv-loop h end marks elapsed sizes k i a j₀ j = Up (heldIn h marks elapsed sizes) end k i a j
+Inv-loop h end marks elapsed sizes k i a j₀ j = Up (heldIn h marks elapsed sizes) end k (i .0) (a .0) j
 
 abbrev μ-loop : tie.MeasureT-loop
 μ-loop h end marks elapsed sizes k i a j₀ j = end - j
@@ -39,6 +39,9 @@ shared-slice-read-from-u16 c = search needs
 
 from-u16-requires : tie.Need-from-u16-requires Inv-loop μ-loop
 from-u16-requires c κs = search needs
+
+cast-t17 : tie.Need-cast-t17 Inv-loop μ-loop
+cast-t17 c = search needs
 
 is-fit-requires : tie.Need-is-fit-requires Inv-loop μ-loop
 is-fit-requires c κs = search needs
@@ -81,7 +84,7 @@ next-fits-spec =
     from-u32-requires
     mul-from-u16
     shared-slice-read-from-u16
-    from-u16-requires
+    from-u16-requires cast-t17
     is-fit-requires
     returns
     add-j

@@ -8,7 +8,7 @@ use Rattle.joining.proofs.searching.lowest_off.Tie as tie
 
 abbrev Inv-loop : tie.InvT-loop
 Inv-loop h marks elapsed sizes r-marks r-elapsed r-sizes b₀ k₀ b k =
-    Searching h marks elapsed sizes r-marks r-elapsed r-sizes (b .number) (b .octets) (b .next) k
+    Searching h marks elapsed sizes r-marks r-elapsed r-sizes (b .number .0) (b .octets .0) (b .next) k
 
 abbrev μ-loop : tie.MeasureT-loop
 μ-loop h marks elapsed sizes r-marks r-elapsed r-sizes b₀ k₀ b k = length marks - k

@@ -27,8 +27,11 @@ shared-slice-read-from-u16 c = search needs
 from-u16-requires : tie.Need-from-u16-requires
 from-u16-requires c κs = search needs
 
-add-t15 : tie.Need-add-t15
-add-t15 c = search needs
+cast-t11 : tie.Need-cast-t11
+cast-t11 c = search needs
+
+add-t14 : tie.Need-add-t14
+add-t14 c = search needs
 
 add-t16 : tie.Need-add-t16
 add-t16 c = search needs
@@ -56,8 +59,8 @@ moved-on-spec =
     from-u32-requires
     mul-from-u16
     shared-slice-read-from-u16
-    from-u16-requires
-    add-t15
+    from-u16-requires cast-t11
+    add-t14
     add-t16
     add-next-heard
     next-heard-requires

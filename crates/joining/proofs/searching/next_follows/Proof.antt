@@ -23,8 +23,14 @@ shared-slice-read-from-u16 c = search needs
 from-u16-requires : tie.Need-from-u16-requires
 from-u16-requires c κs = search needs
 
-add-is-fit : tie.Need-add-is-fit
-add-is-fit c = search needs
+cast-t14 : tie.Need-cast-t14
+cast-t14 c = search needs
+
+add-t17 : tie.Need-add-t17
+add-t17 c = search needs
+
+cast-t19 : tie.Need-cast-t19
+cast-t19 c = search needs
 
 is-fit-requires : tie.Need-is-fit-requires
 is-fit-requires c κs = search needs
@@ -37,8 +43,11 @@ returns c =
     let a = s .args in
     by-packet (a .h) (now (a .marks)) (now (a .elapsed)) (now (a .sizes)) _ _ _ _ (s .pre .1) (t .if1 .taken) _ _ (q .before .before .from-u32 .ensures .0) (q .from-u16 .ensures .0) _ (c .is-fit .ensures)
 
-add-may-end : tie.Need-add-may-end
-add-may-end c = search needs
+cast-t23 : tie.Need-cast-t23
+cast-t23 c = search needs
+
+add-t24 : tie.Need-add-t24
+add-t24 c = search needs
 
 may-end-requires : tie.Need-may-end-requires
 may-end-requires c κs = search needs
@@ -58,10 +67,10 @@ next-follows-spec =
     from-u32-requires
     mul-from-u16
     shared-slice-read-from-u16
-    from-u16-requires
-    add-is-fit
+    from-u16-requires cast-t14
+    add-t17 cast-t19
     is-fit-requires
-    returns
-    add-may-end
+    returns cast-t23
+    add-t24
     may-end-requires
     returns-2)

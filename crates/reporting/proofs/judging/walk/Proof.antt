@@ -14,7 +14,7 @@ use Rattle.reporting.proofs.judging.walk.Tie as tie
 
 abbrev Inv-loop : tie.InvT-loop
 Inv-loop h marks elapsed sizes i₀ a₀ gaps₀ k₀ i a gaps k =
-    Walking (heldIn h marks elapsed sizes) k i a × Ended marks elapsed sizes k i a gaps
+    Walking (heldIn h marks elapsed sizes) k (i .0) (a .0) × Ended marks elapsed sizes k (i .0) (a .0) gaps
 
 abbrev μ-loop : tie.MeasureT-loop
 μ-loop h marks elapsed sizes i₀ a₀ gaps₀ k₀ i a gaps k = length marks - k
@@ -43,6 +43,9 @@ shared-slice-read-from-u16 c = search needs
 from-u16-requires : tie.Need-from-u16-requires Inv-loop μ-loop
 from-u16-requires c κs = search needs
 
+cast-gaps : tie.Need-cast-gaps Inv-loop μ-loop
+cast-gaps c = search needs
+
 is-fit-requires : tie.Need-is-fit-requires Inv-loop μ-loop
 is-fit-requires c κs = search needs
 
@@ -61,20 +64,20 @@ returns c =
 cast-gap-between : tie.Need-cast-gap-between Inv-loop μ-loop
 cast-gap-between c = search needs
 
-cast-gap-between-2 : tie.Need-cast-gap-between-2 Inv-loop μ-loop
-cast-gap-between-2 c = search needs
-
 gap-between-requires : tie.Need-gap-between-requires Inv-loop μ-loop
 gap-between-requires c κs = search needs
 
 add-gaps : tie.Need-add-gaps Inv-loop μ-loop
 add-gaps c = search needs
 
-add-i : tie.Need-add-i Inv-loop μ-loop
-add-i c = search needs
+cast-t17 : tie.Need-cast-t17 Inv-loop μ-loop
+cast-t17 c = search needs
 
-add-a : tie.Need-add-a Inv-loop μ-loop
-add-a c = search needs
+add-t25 : tie.Need-add-t25 Inv-loop μ-loop
+add-t25 c = search needs
+
+add-t26 : tie.Need-add-t26 Inv-loop μ-loop
+add-t26 c = search needs
 
 shared-slice-read-place-wrong : tie.Need-shared-slice-read-place-wrong Inv-loop μ-loop
 shared-slice-read-place-wrong c = search needs
@@ -124,9 +127,6 @@ loop-again c =
     (λ w. rw (w .6, w .7, w .8) (unheard _ _ _ _ (g .0) lt _ (w .4 .ensures) (w .0 .left) (w .5 .left), ended-unheard _ _ _ _ _ _ _ (g .1) (w .0 .left)))
     (c .if1 .came)
 
-cast-t34 : tie.Need-cast-t34 Inv-loop μ-loop
-cast-t34 c = search needs
-
 may-end-requires : tie.Need-may-end-requires Inv-loop μ-loop
 may-end-requires c κs = search needs
 
@@ -150,16 +150,15 @@ walk-spec =
     from-u32-requires
     mul-from-u16
     shared-slice-read-from-u16
-    from-u16-requires
+    from-u16-requires cast-gaps
     is-fit-requires
     off-requires
     returns
     cast-gap-between
-    cast-gap-between-2
     gap-between-requires
-    add-gaps
-    add-i
-    add-a
+    add-gaps cast-t17
+    add-t25
+    add-t26
     shared-slice-read-place-wrong
     mul-place-wrong
     shared-slice-read-place-wrong-2
@@ -171,6 +170,5 @@ walk-spec =
     add-k
     loop-less
     loop-again
-    cast-t34
     may-end-requires
     returns-3)
