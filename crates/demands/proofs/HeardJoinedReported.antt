@@ -15,7 +15,7 @@ use Rattle.reception.specs.declared.Taken.{Taken}
 use Rattle.reception.specs.declared.Taken.the-variants.{Done as TakenDone, Refused as NotTaken}
 use Rattle.reception.specs.Sendings.{Explains}
 use Rattle.reception.specs.Hearing.{Kept, Outcome, heldBy, hearFrame, takenPaper}
-use Rattle.reception.specs.Joining.{JoinPaper, JoinOutcome, joins, joinRecords, joinedPaper}
+use Rattle.reception.specs.Joining.{HoldsBoth, JoinPaper, JoinOutcome, joins, joinRecords, joinedPaper}
 use Rattle.reception.specs.Missing.{GapsRight}
 use Rattle.reception.specs.Reporting.{Gap, gapsOf, gapsAfter, reportRecord, reportOf, Reports, roomOf}
 use Rattle.reception.proofs.DamagedExactly.{undamaged-passed}
@@ -28,7 +28,7 @@ use Rattle.reception.proofs.OnePaper.{reported-known}
 use Rattle.reception.proofs.ReportSaid.{report-done, closed-said, said-gaps}
 use Rattle.reception.proofs.WhatHearingAdds.{Sound, packet-heard, closing-heard}
 use Rattle.reception.proofs.WhatJoiningAdds.{holds-either}
-use Rattle.demands.specs.Demand3.{Proper, OneSequence, HeardAs, WasTaken, JoinedAs, Accepted, emptyLike, HoldsBoth, Demand3}
+use Rattle.demands.specs.Demand3.{Proper, OneSequence, HeardAs, WasTaken, JoinedAs, Accepted, emptyLike, Demand3}
 
 -- a proper record is one to which neither 14 nor 13 applies
 sound : (k : Kept) → Proper k → Sound k
@@ -80,16 +80,7 @@ either-way a b o p h g t =
 holds : (a b : Kept) (o : JoinOutcome) → JoinedAs a b o → Accepted o → HoldsBoth (heldBy a) (heldBy b) (heldBy (o .kept))
 holds a b o h t =
     let x = holds-either a b (joined-done a b o h t) .holds in
-    rw (h .leaves)
-    (record {
-      heard = x .heard;
-      left = x .left;
-      right = x .right;
-      closed = x .closed;
-      closing-left = x .closing-left;
-      closing-right = x .closing-right;
-      capacities = x .capacities;
-    })
+    rw (h .leaves) x
 
 joinable : (a b : Kept) → OneSequence a b → Joinable a b
 joinable a b q =

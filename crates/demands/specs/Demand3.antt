@@ -15,11 +15,11 @@ use Rattle.frame.specs.Reading.{readFrame}
 use Rattle.reception.specs.declared.Report.{Report}
 use Rattle.reception.specs.declared.Reported.{Reported}
 use Rattle.reception.specs.declared.Reported.the-variants.{Done}
-use Rattle.reception.specs.Sendings.{Held, Heard, Explains}
+use Rattle.reception.specs.Sendings.{Explains}
 use Rattle.reception.specs.Adding.{closedHead, withPacket, withClosing}
 use Rattle.reception.specs.Damage.{Undamaged, Matched}
 use Rattle.reception.specs.Hearing.{Kept, Outcome, heldBy, emptyKept, hearFrame, takenPaper, Takes}
-use Rattle.reception.specs.Joining.{JoinOutcome, joinRecords, joinedPaper, Joins}
+use Rattle.reception.specs.Joining.{HoldsBoth, JoinOutcome, joinRecords, joinedPaper, Joins}
 use Rattle.reception.specs.Missing.{Says, GapsRight}
 use Rattle.reception.specs.Reporting.{Gap, gapsOf, Reports, roomOf}
 
@@ -58,16 +58,6 @@ Accepted o = joinedPaper (o .answer) .accepted ≡ 1
 -- an empty record of the same key and capacity
 abbrev pub emptyLike : Kept → Kept
 emptyLike a = emptyKept (a .head .bearer) (a .head .period) (a .head .stamp) (length (a .marks))
-
--- r holds what a or b heard, each packet and closing with its numbers, and nothing else
-pub record HoldsBoth (a b r : Held) : Type 0 where
-  pub heard : (k : ℕ) → Heard r k ↔ (Heard a k ⊎ Heard b k)
-  pub left : (k : ℕ) → Heard a k → (r .elapsed k ≡ a .elapsed k) × (r .size k ≡ a .size k)
-  pub right : (k : ℕ) → Heard b k → (r .elapsed k ≡ b .elapsed k) × (r .size k ≡ b .size k)
-  pub closed : (r .closed ≡ true) ↔ ((a .closed ≡ true) ⊎ (b .closed ≡ true))
-  pub closing-left : a .closed ≡ true → (r .count ≡ a .count) × (r .total ≡ a .total)
-  pub closing-right : b .closed ≡ true → (r .count ≡ b .count) × (r .total ≡ b .total)
-  pub capacities : r .capacity ≡ a .capacity
 
 -- the demand
 pub record Demand3 : Type 0 where

@@ -1,10 +1,11 @@
 -- How each answer meets the promise of joining. Assumes nothing.
 use Prim.Native.Nat.{ℕ}
 use mathlib.Core.Path.{_≡_, refl, sym, _∙_}
-use mathlib.Core.Bool.{Bool, true, false, cond, _&&_, _||_}
+use mathlib.Core.Bool.{Bool, true, false, _&&_, _||_}
 use mathlib.Core.List.{List}
 use lib.Dec.{eqb}
 use Rattle.units.specs.Refusals.{refusing}
+use Rattle.fields.proofs.Choosing.{pick-yes, pick-no}
 use Rattle.reception.specs.declared.Head.{Head}
 use Rattle.reception.specs.declared.Joined.the-variants.{Done, Contradicted, Refused}
 use Rattle.reception.specs.declared.Joining.{Joining}
@@ -27,13 +28,6 @@ and-heard m b r t e = and-first (eqb m 1) b r (eq-eqb m 1 t) e
 pub and-unheard : (m : ℕ) (b : Bool) → (m ≡ 1 → ⊥) → false ≡ (eqb m 1 && b)
 and-unheard m b t = and-none (eqb m 1) b (ne-eqb m 1 t)
 
--- a choice by a test that is known
-pick-left : {A : Type 0} (c : Bool) (x y : A) → c ≡ true → cond c x y ≡ x
-pick-left c x y t = rw t
-
-pick-right : {A : Type 0} (c : Bool) (x y : A) → c ≡ false → cond c x y ≡ y
-pick-right c x y t = rw t
-
 or-open : (c d : Bool) → c ≡ false → (c || d) ≡ d
 or-open c d t = rw t
 
@@ -46,8 +40,8 @@ still-closed h g t =
       period = h .period;
       stamp = h .stamp;
       closed = (t ∙ sym (or-left (h .closed) (g .closed) t)) i;
-      count = sym (pick-left (h .closed) (h .count) (g .count) t) i;
-      total = sym (pick-left (h .closed) (h .total) (g .total) t) i;
+      count = sym (pick-yes (h .closed) (h .count) (g .count) t) i;
+      total = sym (pick-yes (h .closed) (h .total) (g .total) t) i;
     }
 
 pub now-closed : (h g : Head) → h .closed ≡ false
@@ -59,8 +53,8 @@ now-closed h g t =
       period = h .period;
       stamp = h .stamp;
       closed = sym (or-open (h .closed) (g .closed) t) i;
-      count = sym (pick-right (h .closed) (h .count) (g .count) t) i;
-      total = sym (pick-right (h .closed) (h .total) (g .total) t) i;
+      count = sym (pick-no (h .closed) (h .count) (g .count) t) i;
+      total = sym (pick-no (h .closed) (h .total) (g .total) t) i;
     }
 
 -- a refusal

@@ -11,8 +11,9 @@ use borrow.Author.Tests.{eqb-true, eq-eqb}
 use Rattle.frame.specs.Counts.{sumOf}
 use Rattle.reception.specs.Sendings.{Held, Sending, Sent, Whole, Explains}
 use Rattle.reception.specs.Adding.{emptyRecord, packetContradicts, closingContradicts}
-use Rattle.reception.specs.OneSequence.{Part, addPart, addParts, came, closingCame, holding, Same, PartsOf}
+use Rattle.reception.specs.OneSequence.{Part, addPart, addParts, came, closingCame, holding, PartsOf}
 use Rattle.reception.specs.OneSequence.Part.{Packet, Closing}
+use Rattle.fields.proofs.Choosing.{pick-same}
 use Rattle.fields.proofs.Tests.{or-true}
 use Rattle.reception.proofs.ContradictsExactly.{explains-added, explains-closed, agreeing-packet, agreeing-closing}
 
@@ -95,39 +96,22 @@ at-end s get v other one r [] = refl
 at-end s get v other one r (Packet j ∷ ps) =
     at-end s get v other one (addPart r s (Packet j)) ps ∙ ap (λ y. cond (closingCame ps) v y) (other r j)
 at-end s get v other one r (Closing ∷ ps) =
-    at-end s get v other one (addPart r s Closing) ps ∙ ap (λ y. cond (closingCame ps) v y) (one r) ∙ both-ways (closingCame ps)
-  where
-    both-ways : (b : Bool) → cond b v v ≡ v
-    both-ways true = refl
-    both-ways false = refl
+    at-end s get v other one (addPart r s Closing) ps ∙ ap (λ y. cond (closingCame ps) v y) (one r) ∙ pick-same (closingCame ps) v
 
 -- the record depends only on which frames were heard
-pub only-which-came : (c : ℕ) (s : List ℕ) (ps : List Part) → Same (addParts (emptyRecord c) s ps) (holding c s ps)
+pub only-which-came : (c : ℕ) (s : List ℕ) (ps : List Part) → addParts (emptyRecord c) s ps ≡ holding c s ps
 only-which-came c s ps =
+    λ i.
     record {
-      capacities = keeps-capacity (emptyRecord c) s ps;
-      marks = at-place s (λ (r : Held). r .mark) (λ _. 1) (λ r j k. refl) (λ r k. refl) (emptyRecord c) ps;
-      elapseds = at-place s (λ (r : Held). r .elapsed) (λ k. sumOf (take k s)) (λ r j k. refl) (λ r k. refl) (emptyRecord c) ps;
-      sizes = at-place s (λ (r : Held). r .size) (λ k. getD s k 0) (λ r j k. refl) (λ r k. refl) (emptyRecord c) ps;
-      closeds = at-end s (λ (r : Held). r .closed) true (λ r j. refl) (λ r. refl) (emptyRecord c) ps ∙ as-it-is (closingCame ps);
-      counts = at-end s (λ (r : Held). r .count) (length s) (λ r j. refl) (λ r. refl) (emptyRecord c) ps;
-      totals = at-end s (λ (r : Held). r .total) (sumOf s) (λ r j. refl) (λ r. refl) (emptyRecord c) ps;
+      capacity = keeps-capacity (emptyRecord c) s ps i;
+      mark = λ k. at-place s (λ (r : Held). r .mark) (λ _. 1) (λ r j k. refl) (λ r k. refl) (emptyRecord c) ps k i;
+      elapsed = λ k. at-place s (λ (r : Held). r .elapsed) (λ k. sumOf (take k s)) (λ r j k. refl) (λ r k. refl) (emptyRecord c) ps k i;
+      size = λ k. at-place s (λ (r : Held). r .size) (λ k. getD s k 0) (λ r j k. refl) (λ r k. refl) (emptyRecord c) ps k i;
+      closed = (at-end s (λ (r : Held). r .closed) true (λ r j. refl) (λ r. refl) (emptyRecord c) ps ∙ as-it-is (closingCame ps)) i;
+      count = at-end s (λ (r : Held). r .count) (length s) (λ r j. refl) (λ r. refl) (emptyRecord c) ps i;
+      total = at-end s (λ (r : Held). r .total) (sumOf s) (λ r j. refl) (λ r. refl) (emptyRecord c) ps i;
     }
   where
     as-it-is : (b : Bool) → cond b true false ≡ b
     as-it-is true = refl
     as-it-is false = refl
-
--- records that are one place by place are one
-pub same-is-one : (a b : Held) → Same a b → a ≡ b
-same-is-one a b h =
-    λ i.
-    record {
-      capacity = h .capacities i;
-      mark = λ k. h .marks k i;
-      elapsed = λ k. h .elapseds k i;
-      size = λ k. h .sizes k i;
-      closed = h .closeds i;
-      count = h .counts i;
-      total = h .totals i;
-    }

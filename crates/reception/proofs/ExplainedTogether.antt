@@ -3,10 +3,11 @@
 use Prim.Native.Nat.{ℕ, suc, _+_, _≤_, _<_}
 use mathlib.Core.Path.{_≡_, refl, sym, ap, _∙_, subst₂}
 use mathlib.Core.Logic.{_⊎_, inl, inr, ⊎-elim}
-use mathlib.Core.Bool.{Bool, true, false, cond, _||_}
+use mathlib.Core.Bool.{Bool, true, false, _||_}
 use mathlib.Core.List.{List}
 use native.Mathlib.Omega.{arith}
 use borrow.Author.Tests.{eqb-true, eq-eqb}
+use Rattle.fields.proofs.Choosing.{pick-yes, pick-no}
 use Rattle.fields.proofs.Tests.{either}
 use Rattle.reception.specs.Sendings.{Held, Heard, Sending, Sent, Whole, Explains, Explained}
 use Rattle.reception.specs.Walk.{isHeard}
@@ -38,13 +39,7 @@ record Cross (a b : Held) : Type 0 where
   end-left : a .closed ≡ true → (j y : ℕ) → Point b j y → j ≤ a .count
   end-right : b .closed ≡ true → (i x : ℕ) → Point a i x → i ≤ b .count
 
--- a choice by a test that is known
-pub pick-yes : (c : Bool) (x y : ℕ) → c ≡ true → cond c x y ≡ x
-pick-yes c x y t = rw t
-
-pub pick-no : (c : Bool) (x y : ℕ) → c ≡ false → cond c x y ≡ y
-pick-no c x y t = rw t
-
+-- either of two tests
 pub or-right : (c d : Bool) → c ≡ false → (c || d) ≡ true → d ≡ true
 or-right c d t h = rw t at h
 

@@ -3,21 +3,23 @@
 use Prim.Native.Nat.{ℕ, _<_}
 use mathlib.Core.Path.{_≡_, refl, sym, ap, _∙_, subst}
 use mathlib.Core.Logic.{⊎-elim}
-use mathlib.Core.Bool.{Bool, true, false, cond, or-false, or-self, or-comm, false≢true}
+use mathlib.Core.Bool.{Bool, true, false, cond, or-false, or-self, or-comm}
 use mathlib.Core.List.{List}
 use native.Mathlib.Omega.{arith}
 use lib.ListN.{length, length-replicate}
-use borrow.Author.Tests.{eqb-true, eqb-false, eq-eqb}
+use borrow.Author.Tests.{eqb-true, eqb-false}
+use Rattle.fields.proofs.Choosing.{pick-same}
 use Rattle.reception.specs.declared.Head.{Head}
 use Rattle.reception.specs.declared.Joined.the-variants.{Done}
 use Rattle.reception.specs.Sendings.{Held, Heard, Explains}
 use Rattle.reception.specs.Walk.{isHeard}
 use Rattle.reception.specs.Damage.{Undamaged}
 use Rattle.reception.specs.Adding.{emptyRecord}
-use Rattle.reception.specs.Hearing.{Kept, heldBy, otherKey, emptyKept}
+use Rattle.reception.specs.Hearing.{Kept, heldBy, emptyKept}
 use Rattle.reception.specs.Joining.{union, joinedKept, joins, otherRecord, joinRecords}
+use Rattle.reception.proofs.AnyOrder.{explains-empty}
 use Rattle.reception.proofs.KeptAsHeld.{SameKey, held-empty}
-use Rattle.reception.proofs.WhatHearingAdds.{Sound, sound-lists, key-owned}
+use Rattle.reception.proofs.WhatHearingAdds.{Sound, sound-lists, owned-key, key-owned}
 use Rattle.reception.proofs.HearingUndamaged.{sound-undamaged, empty-sound}
 use Rattle.reception.proofs.JoinedAsHeld.{joined-matched, Same, told-by-places}
 use Rattle.reception.proofs.ExplainedTogether.{Together, heard-left}
@@ -27,9 +29,7 @@ use Rattle.reception.proofs.WhatJoiningAdds.{joinable-held}
 
 -- records of one key
 pub own-record : (a b : Kept) → SameKey (a .head) (b .head) → otherRecord a b ≡ false
-unfolding otherKey
-own-record a b k =
-    simp (eq-eqb (a .head .bearer) (b .head .bearer) (k .bearers), eq-eqb (a .head .period) (b .head .period) (k .periods), eq-eqb (a .head .stamp) (b .head .stamp) (k .stamps))
+own-record a b k = owned-key (a .head) _ _ _ (k .bearers) (k .periods) (k .stamps)
 
 -- the other way round
 pub swapped : (a b : Kept) → Joinable a b → Joinable b a
@@ -105,20 +105,16 @@ either-order a b e =
     ∙ sym (together-joins a b j t)
 
 -- a record with itself
-cond-same : (c : Bool) (x : ℕ) → cond c x x ≡ x
-cond-same true x = refl
-cond-same false x = refl
-
 union-self : (a : Held) → Same (union a a) a
 union-self a =
     record {
       capacities = refl;
-      marks = λ k lt. cond-same (isHeard a k) _;
-      elapseds = λ k lt. cond-same (isHeard a k) _;
-      sizes = λ k lt. cond-same (isHeard a k) _;
+      marks = λ k lt. pick-same (isHeard a k) _;
+      elapseds = λ k lt. pick-same (isHeard a k) _;
+      sizes = λ k lt. pick-same (isHeard a k) _;
       closeds = or-self (a .closed);
-      counts = cond-same (a .closed) _;
-      totals = cond-same (a .closed) _;
+      counts = pick-same (a .closed) _;
+      totals = pick-same (a .closed) _;
     }
 
 -- a join that holds the same as a sound record leaves that record
@@ -148,16 +144,8 @@ emptyOf-held : (a : Kept) → heldBy (emptyOf a) ≡ emptyRecord (length (a .mar
 emptyOf-held a = held-empty (a .head .bearer) (a .head .period) (a .head .stamp) (length (a .marks))
 
 -- every sending explains it
-empty-explains : (c : ℕ) (r : Held) (s : List ℕ) → Explains r s → Explains (emptyRecord c) s
-empty-explains c r s h =
-    record {
-      sending = h .sending;
-      packets = λ k q. let no : _≡_ {A = ℕ} 0 1 = q .marked in absurd (omega (arith, no));
-      closing = λ t. absurd (false≢true t);
-    }
-
 emptyOf-explains : (a : Kept) (s : List ℕ) → Explains (heldBy a) s → Explains (heldBy (emptyOf a)) s
-emptyOf-explains a s h = subst (λ (r : Held). Explains r s) (sym (emptyOf-held a)) (empty-explains _ (heldBy a) s h)
+emptyOf-explains a s h = subst (λ (r : Held). Explains r s) (sym (emptyOf-held a)) (explains-empty _ s (h .sending))
 
 cond-zero : (c : Bool) (x : ℕ) → (c ≡ false → x ≡ 0) → cond c x 0 ≡ x
 cond-zero true x h = refl

@@ -9,6 +9,7 @@ use native.Mathlib.Omega.{arith}
 use lib.ListN.{length, take}
 use lib.Seq.{length-take-le}
 use borrow.Author.Tests.{ne-eqb, eqb-false}
+use Rattle.fields.proofs.Choosing.{pick-yes, pick-no}
 use Rattle.fields.proofs.Tests.{either}
 use Rattle.frame.specs.Counts.{sumOf}
 use Rattle.reception.specs.Sendings.{Held, Explains}
@@ -26,12 +27,6 @@ pub record SentAs (r : Held) (s : List ℕ) : Type 0 where
   pub covers : Covers r s
   pub packets : sentPackets r ≡ length s
   pub octets : sentOctets r ≡ sumOf s
-
-pub pick-yes : {A : Type 0} (b : Bool) (x y : A) → b ≡ true → cond b x y ≡ x
-pick-yes b x y t = rw t
-
-pub pick-no : {A : Type 0} (b : Bool) (x y : A) → b ≡ false → cond b x y ≡ y
-pick-no b x y t = rw t
 
 -- closed, it is every sending that explains the record
 pub closed-sent : (stamp : ℕ) (r : Held) (s : List ℕ) → Undamaged stamp r → r .closed ≡ true → Explains r s → SentAs r s

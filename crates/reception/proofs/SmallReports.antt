@@ -7,6 +7,7 @@ use native.Mathlib.Nat.{sub-zero}
 use native.Mathlib.Omega.{arith}
 use lib.ListN.{length}
 use borrow.Author.Tests.{ne-eqb}
+use Rattle.fields.proofs.Choosing.{pick-no}
 use Rattle.reception.specs.Sendings.{Held, Heard}
 use Rattle.reception.specs.Adding.{emptyRecord, withPacket, withClosing}
 use Rattle.reception.specs.Neighbours.{endTo, octetsTo}
@@ -15,7 +16,6 @@ use Rattle.reception.specs.Missing.{zeroReport}
 use Rattle.reception.proofs.NeighboursDecide.{end-unheard}
 use Rattle.reception.proofs.GapsAreUnheard.{Clear, of-gaps, heard-none}
 use Rattle.reception.proofs.GapOctets.{unchanged, octets-none}
-use Rattle.reception.proofs.ReportAccounts.{pick-no}
 use Rattle.reception.proofs.BenchExamples.{afterB}
 
 -- nothing was heard up to its capacity

@@ -44,10 +44,12 @@ own-key h bearer period stamp e =
     let q = or-false (not (eqb (h .period) period)) (not (eqb (h .stamp) stamp)) (p .1) in
     (eqb-true _ _ (not-false _ (p .0)), eqb-true _ _ (not-false _ (q .0)), eqb-true _ _ (not-false _ (q .1)))
 
-pub key-owned : (h : Head) → otherKey h (h .bearer) (h .period) (h .stamp) ≡ false
+pub owned-key : (h : Head) (bearer period stamp : ℕ) → h .bearer ≡ bearer → h .period ≡ period → h .stamp ≡ stamp → otherKey h bearer period stamp ≡ false
 unfolding otherKey
-key-owned h =
-    simp (eq-eqb (h .bearer) (h .bearer) refl, eq-eqb (h .period) (h .period) refl, eq-eqb (h .stamp) (h .stamp) refl)
+owned-key h bearer period stamp b p s = simp (eq-eqb (h .bearer) bearer b, eq-eqb (h .period) period p, eq-eqb (h .stamp) stamp s)
+
+pub key-owned : (h : Head) → otherKey h (h .bearer) (h .period) (h .stamp) ≡ false
+key-owned h = owned-key h _ _ _ refl refl refl
 
 -- none of 9, 10, 11 applies to a packet
 pub record PacketFits (k : Kept) (bearer period : ℕ) (d : DataPdu) : Type 0 where

@@ -1,10 +1,11 @@
 -- What a join leaves: exactly what either heard, of the left's key and capacity; and a sound record, whatever the answer. Assumes nothing.
 use Prim.Native.Nat.{ℕ}
 use mathlib.Core.Path.{_≡_, refl, sym, ap, _∙_, subst}
-use mathlib.Core.Logic.{_⊎_, inl, inr, ⊎-elim, _↔_}
+use mathlib.Core.Logic.{_⊎_, inl, inr, ⊎-elim}
 use mathlib.Core.Bool.{true, false, _||_}
 use native.Mathlib.Omega.{arith}
 use borrow.Author.Tests.{eqb-true, eq-eqb}
+use Rattle.fields.proofs.Choosing.{pick-yes, pick-no}
 use Rattle.fields.proofs.Tests.{either, or-false}
 use Rattle.reception.specs.declared.Joined.{Joined}
 use Rattle.reception.specs.declared.Joined.the-variants.{Done, Contradicted, Refused}
@@ -12,13 +13,13 @@ use Rattle.reception.specs.Sendings.{Held, Heard}
 use Rattle.reception.specs.Walk.{isHeard}
 use Rattle.reception.specs.Damage.{Undamaged, damagedRecord}
 use Rattle.reception.specs.Hearing.{Kept, heldBy}
-use Rattle.reception.specs.Joining.{union, joinedKept, JoinOutcome, joinRecords}
+use Rattle.reception.specs.Joining.{union, HoldsBoth, joinedKept, JoinOutcome, joinRecords}
 use Rattle.reception.proofs.DamagedExactly.{undamaged-passed}
 use Rattle.reception.proofs.KeptAsHeld.{SameKey, matched-lists}
 use Rattle.reception.proofs.WhatHearingAdds.{Sound, sound-lists}
 use Rattle.reception.proofs.HearingUndamaged.{sound-undamaged}
 use Rattle.reception.proofs.JoinedAsHeld.{joined-held, joined-matched}
-use Rattle.reception.proofs.ExplainedTogether.{Together, pick-yes, pick-no, or-right, or-left, or-second, heard-left, heard-right, explains-union}
+use Rattle.reception.proofs.ExplainedTogether.{Together, or-right, or-left, or-second, heard-left, heard-right, explains-union}
 use Rattle.reception.proofs.JoinJudged.{Joinable, done-joinable}
 use Rattle.reception.proofs.JoinRefusedExactly.{done-joins, done-together, join-refusal-changes-nothing}
 
@@ -26,17 +27,7 @@ use Rattle.reception.proofs.JoinRefusedExactly.{done-joins, done-togeth
 abbrev pub Pair : ℕ → ℕ → ℕ → ℕ → Type 0
 Pair x y u v = (x ≡ u) × (y ≡ v)
 
--- r holds exactly what a or b heard
-pub record HoldsEither (a b r : Held) : Type 0 where
-  pub heard : (k : ℕ) → Heard r k ↔ (Heard a k ⊎ Heard b k)
-  pub left : (k : ℕ) → Heard a k → Pair (r .elapsed k) (r .size k) (a .elapsed k) (a .size k)
-  pub right : (k : ℕ) → Heard b k → Pair (r .elapsed k) (r .size k) (b .elapsed k) (b .size k)
-  pub closed : (r .closed ≡ true) ↔ ((a .closed ≡ true) ⊎ (b .closed ≡ true))
-  pub closing-left : a .closed ≡ true → Pair (r .count) (r .total) (a .count) (a .total)
-  pub closing-right : b .closed ≡ true → Pair (r .count) (r .total) (b .count) (b .total)
-  pub capacities : r .capacity ≡ a .capacity
-
--- the union of two records that one sending explains does
+-- the union of two records that one sending explains holds what either heard
 module _ (a b : Held) (e : a .capacity ≡ b .capacity) where
   heard-either : (k : ℕ) → Heard (union a b) k → Heard a k ⊎ Heard b k
   heard-either k h = ⊎-elim (λ t. inl (heard-left a k t (h .below))) (λ t. inr (heard-right a b k e t h)) (either (isHeard a k))
@@ -52,7 +43,7 @@ module _ (a b : Held) (e : a .capacity ≡ b .capacity) where
   closed-either : (a .closed || b .closed) ≡ true → (a .closed ≡ true) ⊎ (b .closed ≡ true)
   closed-either h = ⊎-elim (λ t. inl t) (λ t. inr (or-right _ _ t h)) (either (a .closed))
 
-  pub union-holds : Together a b → HoldsEither a b (union a b)
+  pub union-holds : Together a b → HoldsBoth a b (union a b)
   union-holds t =
       record {
         heard = λ k. (heard-either k, ⊎-elim (of-left k) (of-right k));
@@ -83,7 +74,7 @@ module _ (a b : Held) (e : a .capacity ≡ b .capacity) where
 
 -- an accepted join leaves what either heard, and the left's key
 pub record JoinedBoth (a b after : Kept) : Type 0 where
-  pub holds : HoldsEither (heldBy a) (heldBy b) (heldBy after)
+  pub holds : HoldsBoth (heldBy a) (heldBy b) (heldBy after)
   pub key : SameKey (after .head) (a .head)
 
 pub joinable-held : (a b : Kept) → Joinable a b → heldBy (joinedKept a b) ≡ union (heldBy a) (heldBy b)
@@ -95,7 +86,7 @@ holds-either a b e =
     let t = done-together a b j e in
     let q = ap (λ (o : JoinOutcome). o .kept) (done-joins a b e) in
     record {
-      holds = subst (HoldsEither (heldBy a) (heldBy b)) (sym (ap heldBy q ∙ joinable-held a b j)) (union-holds (heldBy a) (heldBy b) (j .long) t);
+      holds = subst (HoldsBoth (heldBy a) (heldBy b)) (sym (ap heldBy q ∙ joinable-held a b j)) (union-holds (heldBy a) (heldBy b) (j .long) t);
       key =
           record {
             bearers = ap (λ (x : Kept). x .head .bearer) q;

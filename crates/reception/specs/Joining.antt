@@ -2,7 +2,8 @@
 -- record"). Assumes nothing.
 use Prim.Native.Nat.{ℕ, zero, suc}
 use mathlib.Core.Path.{_≡_}
-use mathlib.Core.Bool.{Bool, cond, not, _||_, _&&_}
+use mathlib.Core.Bool.{Bool, true, cond, not, _||_, _&&_}
+use mathlib.Core.Logic.{_⊎_, _↔_}
 use mathlib.Core.List.{List, [], _∷_}
 use lib.Dec.{ltb, eqb}
 use lib.ListN.{length}
@@ -12,7 +13,7 @@ use Rattle.reception.specs.declared.Head.{Head}
 use Rattle.reception.specs.declared.Joined.{Joined}
 use Rattle.reception.specs.declared.Joined.the-variants.{Done, Contradicted, Refused}
 use Rattle.reception.specs.declared.Joining.{Joining}
-use Rattle.reception.specs.Sendings.{Held}
+use Rattle.reception.specs.Sendings.{Held, Heard}
 use Rattle.reception.specs.Walk.{isHeard}
 use Rattle.reception.specs.Adding.{packetContradicts, closingContradicts}
 use Rattle.reception.specs.Hearing.{Kept, keptIn, heldBy, unmatched, damagedKept, otherKey}
@@ -30,7 +31,17 @@ union a b =
       total = cond (a .closed) (a .total) (b .total);
     }
 
--- the same of lists: the left's number where its mark is heard, elsewhere the right's
+-- r holds what a or b heard, each packet and closing with its numbers, and nothing else
+pub record HoldsBoth (a b r : Held) : Type 0 where
+  pub heard : (k : ℕ) → Heard r k ↔ (Heard a k ⊎ Heard b k)
+  pub left : (k : ℕ) → Heard a k → (r .elapsed k ≡ a .elapsed k) × (r .size k ≡ a .size k)
+  pub right : (k : ℕ) → Heard b k → (r .elapsed k ≡ b .elapsed k) × (r .size k ≡ b .size k)
+  pub closed : (r .closed ≡ true) ↔ ((a .closed ≡ true) ⊎ (b .closed ≡ true))
+  pub closing-left : a .closed ≡ true → (r .count ≡ a .count) × (r .total ≡ a .total)
+  pub closing-right : b .closed ≡ true → (r .count ≡ b .count) × (r .total ≡ b .total)
+  pub capacities : r .capacity ≡ a .capacity
+
+-- the union of lists: the left's number where its mark is heard, elsewhere the right's
 unfoldable pub chosen : List ℕ → List ℕ → List ℕ → List ℕ
 chosen [] left right = left
 chosen (m ∷ marks) [] right = []

@@ -58,16 +58,6 @@ holding c s ps =
       total = cond (closingCame ps) (sumOf s) 0;
     }
 
--- two records are one, place by place
-pub record Same (a b : Held) : Type 0 where
-  pub capacities : a .capacity ≡ b .capacity
-  pub marks : (k : ℕ) → a .mark k ≡ b .mark k
-  pub elapseds : (k : ℕ) → a .elapsed k ≡ b .elapsed k
-  pub sizes : (k : ℕ) → a .size k ≡ b .size k
-  pub closeds : a .closed ≡ b .closed
-  pub counts : a .count ≡ b .count
-  pub totals : a .total ≡ b .total
-
 -- every packet that came is one of s
 abbrev pub PartsOf : List ℕ → List Part → Type 0
 PartsOf s ps = (k : ℕ) → came k ps ≡ true → k < length s

@@ -12,7 +12,7 @@ use Rattle.sender.specs.Sequence.{countOf}
 use Rattle.reception.specs.Sendings.{Held}
 use Rattle.reception.specs.OneSequence.{addPart, addParts, holding}
 use Rattle.reception.specs.Hearing.{Kept, heldBy, emptyKept}
-use Rattle.reception.proofs.AnyOrder.{only-which-came, same-is-one}
+use Rattle.reception.proofs.AnyOrder.{only-which-came}
 use Rattle.reception.proofs.KeptAsHeld.{held-packet, held-empty, SameKey, told-by-held}
 use Rattle.reception.proofs.SumsBefore.{before}
 use Rattle.reception.proofs.WhatHearingAdds.{sound-lists, own-key}
@@ -84,7 +84,7 @@ module _ (bearer period stamp packets octets : ℕ) (ps : List (List ℕ)) (c : 
         ap heldBy (kept-after w)
         ∙ held-parts (emptyKept bearer period stamp capacity) first w
         ∙ ap (λ (r : Held). addParts r s (map partOf xs)) (held-empty bearer period stamp capacity)
-        ∙ same-is-one _ _ (only-which-came capacity s (map partOf xs))
+        ∙ only-which-came capacity s (map partOf xs)
 
     still-hears : {xs : List Piece} → PiecesOf ps xs → Hears (after xs)
     still-hears w = subst Hears (sym (kept-after w)) (hears-after (emptyKept bearer period stamp capacity) first w)
