@@ -2,33 +2,36 @@
 use Prim.Native.Nat.{ℕ}
 use native.Mathlib.Omega.{arith}
 use mathlib.Core.Path.{_≡_, refl, sym, ap, subst, _∙_}
+use mathlib.Core.Bool.{false}
 use mathlib.Core.Logic.{_↔_}
 use mathlib.Core.List.{List, map}
+use Rattle.units.specs.Refusals.{refusing, contradiction}
 use Rattle.fields.specs.Runs.{front}
 use Rattle.frame.specs.Paper.{CountPaper}
 use Rattle.reception.specs.declared.Joined.{Joined}
-use Rattle.reception.specs.declared.Joined.the-variants.{Done as JoinDone, Contradicted, Refused as NotJoined}
+use Rattle.reception.specs.declared.Joined.the-variants.{Done as JoinDone, Contradicted as NamesOne, Refused as NotJoined}
 use Rattle.reception.specs.declared.Report.{Report}
 use Rattle.reception.specs.declared.Reported.{Reported}
 use Rattle.reception.specs.declared.Reported.the-variants.{Done}
 use Rattle.reception.specs.declared.Taken.{Taken}
 use Rattle.reception.specs.declared.Taken.the-variants.{Done as TakenDone, Refused as NotTaken}
 use Rattle.reception.specs.Sendings.{Explains}
-use Rattle.reception.specs.Hearing.{Kept, Outcome, heldBy, hearFrame, takenPaper}
+use Rattle.reception.specs.Hearing.{Kept, Outcome, heldBy, refuses, otherKey, hearFrame, takenPaper}
 use Rattle.reception.specs.Joining.{HoldsBoth, JoinPaper, JoinOutcome, joins, joinRecords, joinedPaper}
 use Rattle.reception.specs.Missing.{GapsRight}
 use Rattle.reception.specs.Reporting.{Gap, gapsOf, gapsAfter, reportRecord, reportOf, Reports, roomOf}
 use Rattle.reception.proofs.DamagedExactly.{undamaged-passed}
+use Rattle.reception.proofs.HearingContradicts.{unexplained-packet, refused-packet, unexplained-closing, refused-closing}
 use Rattle.reception.proofs.JoinJudged.{Joinable}
 use Rattle.reception.proofs.JoinRefusedExactly.{refused-exactly}
 use Rattle.reception.proofs.JoinsGrouped.{LeftFirst, grouped, grouped-either}
 use Rattle.reception.proofs.KeptAsHeld.{matched-lists}
-use Rattle.reception.proofs.LawsOfJoining.{own-record, either-order, with-itself, with-empty}
+use Rattle.reception.proofs.LawsOfJoining.{own-record, either-order, with-itself, with-empty, empty-with}
 use Rattle.reception.proofs.OnePaper.{reported-known}
 use Rattle.reception.proofs.ReportSaid.{report-done, closed-said, said-gaps}
-use Rattle.reception.proofs.WhatHearingAdds.{Sound, packet-heard, closing-heard}
+use Rattle.reception.proofs.WhatHearingAdds.{Sound, owned-key, packet-heard, closing-heard}
 use Rattle.reception.proofs.WhatJoiningAdds.{holds-either}
-use Rattle.demands.specs.Demand3.{Proper, OneSequence, HeardAs, WasTaken, JoinedAs, Accepted, emptyLike, Demand3}
+use Rattle.demands.specs.Demand3.{Proper, OneSequence, HeardAs, WasTaken, Contradicted, OwnKey, JoinedAs, Accepted, emptyLike, Demand3}
 
 -- a proper record is one to which neither 14 nor 13 applies
 sound : (k : Kept) → Proper k → Sound k
@@ -43,11 +46,14 @@ taken-done (NotTaken r) e = absurd (omega (arith, e))
 join-done : (a : Joined) → joinedPaper a .accepted ≡ 1 → a ≡ JoinDone
 unfolding joinedPaper
 join-done JoinDone e = refl
-join-done (Contradicted n) e = absurd (omega (arith, e))
+join-done (NamesOne n) e = absurd (omega (arith, e))
 join-done (NotJoined r) e = absurd (omega (arith, e))
 
 abbrev accepted-of : CountPaper → ℕ
 accepted-of p = p .accepted
+
+abbrev number-of : CountPaper → ℕ
+number-of p = p .number
 
 abbrev join-accepted : JoinPaper → ℕ
 join-accepted p = p .accepted
@@ -56,6 +62,24 @@ join-accepted p = p .accepted
 module _ (k : Kept) (bearer period : ℕ) (f : List ℕ) (o : Outcome) (h : HeardAs k bearer period f o) (t : WasTaken o) where
   heard-done : hearFrame k bearer period f .answer ≡ TakenDone
   heard-done = taken-done _ (sym (ap accepted-of (h .says)) ∙ t)
+
+-- an answer with number 11 is the refusal
+taken-contradicts : (a : Taken) → takenPaper a .number ≡ contradiction → a ≡ NotTaken (refusing contradiction)
+unfolding takenPaper
+taken-contradicts TakenDone e = absurd (omega (arith, e))
+taken-contradicts (NotTaken r) e = ap (λ (n : ℕ). NotTaken (refusing n)) e
+
+-- what was refused with 11
+module _ (k : Kept) (bearer period : ℕ) (f : List ℕ) (o : Outcome) (h : HeardAs k bearer period f o) where
+  heard-contradicts : Contradicted o → hearFrame k bearer period f .answer ≡ NotTaken (refusing contradiction)
+  heard-contradicts t = taken-contradicts _ (sym (ap number-of (h .says)) ∙ t)
+
+  contradicts-heard : hearFrame k bearer period f ≡ refuses k contradiction → Contradicted o
+  unfolding takenPaper
+  contradicts-heard e = ap number-of (h .says ∙ ap (λ (x : Outcome). takenPaper (x .answer)) e)
+
+own : (k : Kept) (bearer period stamp : ℕ) → OwnKey k bearer period stamp → otherKey (k .head) bearer period stamp ≡ false
+own k bearer period stamp q = owned-key (k .head) bearer period stamp (q .bearers) (q .periods) (q .stamps)
 
 -- what was joined
 module _ (a b : Kept) (o : JoinOutcome) (h : JoinedAs a b o) where
@@ -136,11 +160,24 @@ demand-3 =
       closing-added = λ k bearer period f c o e h t.
           let x = closing-heard k bearer period f c e (heard-done k bearer period f o h t) in
           (ap heldBy (h .leaves) ∙ x .holds, ap (λ (y : Kept). y .head) (h .leaves ∙ x .kept-is));
+      packet-contradicts = λ k bearer period f d o e h p q lt.
+          let s = sound k p in
+          let w = own k bearer period (d .stamp) q in (
+            λ t x. refused-packet k bearer period f d e s w lt (heard-contradicts k bearer period f o h t) (x .0) (x .1) (x .2),
+            λ n. contradicts-heard k bearer period f o h (unexplained-packet k bearer period f d e s w lt (λ s x y. n (s, x, y))),
+          );
+      closing-contradicts = λ k bearer period f c o e h p q le.
+          let s = sound k p in
+          let w = own k bearer period (c .stamp) q in (
+            λ t x. refused-closing k bearer period f c e s w le (heard-contradicts k bearer period f o h t) (x .0) (x .1) (x .2),
+            λ n. contradicts-heard k bearer period f o h (unexplained-closing k bearer period f c e s w le (λ s x y. n (s, x, y))),
+          );
       holds-both = holds;
       either-order = either-way;
       grouped = three;
       with-itself = λ a o p h. joined-all a a o h a (with-itself a (sound a p));
       with-empty = λ a o p h. joined-all a (emptyLike a) o h a (with-empty a (sound a p));
+      empty-with = λ a o p h. joined-all (emptyLike a) a o h a (empty-with a (sound a p));
       refused-exactly = exactly;
       reported = λ k firsts counts octets r f c o p closed fits w.
           let room = roomOf firsts counts octets in

@@ -1,12 +1,13 @@
 -- Demand 3: "Hearing an accepted frame adds exactly that frame to a record; joining obeys the laws of a union and is refused exactly when
 -- no sending explains both; for an undamaged closed record the report's heard and missing packets and octets are those of every sending
 -- that explains it." Of any outcomes that meet the promises. Assumes nothing.
-use Prim.Native.Nat.{ℕ, _≤_}
+use Prim.Native.Nat.{ℕ, _≤_, _<_}
 use mathlib.Core.Path.{_≡_}
 use mathlib.Core.Bool.{true}
 use mathlib.Core.Logic.{_⊎_, _↔_}
 use mathlib.Core.List.{List, map}
 use lib.ListN.{length}
+use Rattle.units.specs.Refusals.{contradiction}
 use Rattle.fields.specs.Runs.{front}
 use Rattle.frame.specs.declared.ClosingPdu.{ClosingPdu}
 use Rattle.frame.specs.declared.DataPdu.{DataPdu}
@@ -15,7 +16,7 @@ use Rattle.frame.specs.Reading.{readFrame}
 use Rattle.reception.specs.declared.Report.{Report}
 use Rattle.reception.specs.declared.Reported.{Reported}
 use Rattle.reception.specs.declared.Reported.the-variants.{Done}
-use Rattle.reception.specs.Sendings.{Explains}
+use Rattle.reception.specs.Sendings.{Sent, Whole, Explains}
 use Rattle.reception.specs.Adding.{closedHead, withPacket, withClosing}
 use Rattle.reception.specs.Damage.{Undamaged, Matched}
 use Rattle.reception.specs.Hearing.{Kept, Outcome, heldBy, emptyKept, hearFrame, takenPaper, Takes}
@@ -46,6 +47,16 @@ HeardAs k bearer period f o =
 abbrev pub WasTaken : Outcome → Type 0
 WasTaken o = takenPaper (o .answer) .accepted ≡ 1
 
+-- the frame was refused as a contradiction, with 11
+abbrev pub Contradicted : Outcome → Type 0
+Contradicted o = takenPaper (o .answer) .number ≡ contradiction
+
+-- the record's own key came with the frame
+pub record OwnKey (k : Kept) (bearer period stamp : ℕ) : Type 0 where
+  pub bearers : k .head .bearer ≡ bearer
+  pub periods : k .head .period ≡ period
+  pub stamps : k .head .stamp ≡ stamp
+
 -- o is what joining b to a answers and leaves
 abbrev pub JoinedAs : Kept → Kept → JoinOutcome → Type 0
 JoinedAs a b o =
@@ -67,6 +78,14 @@ pub record Demand3 : Type 0 where
   pub closing-added : (k : Kept) (bearer period : ℕ) (f : List ℕ) (c : ClosingPdu) (o : Outcome)
       → (readFrame f ≡ Closing c) ⊎ (readFrame f ≡ ClosingWithLengths c) → HeardAs k bearer period f o → WasTaken o
       → (heldBy (o .kept) ≡ withClosing (heldBy k) (c .number .0) (c .elapsed .0)) × (o .kept .head ≡ closedHead (k .head) (c .number .0) (c .elapsed .0))
+  -- "Hearing contradicts exactly if no sending explains the record with the frame added", where no refusal comes before 11
+  pub packet-contradicts : (k : Kept) (bearer period : ℕ) (f : List ℕ) (d : DataPdu) (o : Outcome) → readFrame f ≡ Data d → HeardAs k bearer period f o
+      → Proper k → OwnKey k bearer period (d .stamp) → d .number .0 < length (k .marks)
+      → Contradicted o ↔ ((s : List ℕ) × Explains (heldBy k) s × Sent s (d .number .0) (d .elapsed .0) (d .length .0) → ⊥)
+  pub closing-contradicts : (k : Kept) (bearer period : ℕ) (f : List ℕ) (c : ClosingPdu) (o : Outcome)
+      → (readFrame f ≡ Closing c) ⊎ (readFrame f ≡ ClosingWithLengths c) → HeardAs k bearer period f o
+      → Proper k → OwnKey k bearer period (c .stamp) → c .number .0 ≤ length (k .marks)
+      → Contradicted o ↔ ((s : List ℕ) × Explains (heldBy k) s × Whole s (c .number .0) (c .elapsed .0) → ⊥)
   -- "joining obeys the laws of a union"
   pub holds-both : (a b : Kept) (o : JoinOutcome) → JoinedAs a b o → Accepted o → HoldsBoth (heldBy a) (heldBy b) (heldBy (o .kept))
   pub either-order : (a b : Kept) (o p : JoinOutcome) → JoinedAs a b o → JoinedAs b a p → Accepted o → Accepted p × (o .kept ≡ p .kept)
@@ -74,6 +93,7 @@ pub record Demand3 : Type 0 where
       → Accepted ab → Accepted abc → Accepted bc × Accepted a-bc × (abc .kept ≡ a-bc .kept)
   pub with-itself : (a : Kept) (o : JoinOutcome) → Proper a → JoinedAs a a o → Accepted o × (o .kept ≡ a)
   pub with-empty : (a : Kept) (o : JoinOutcome) → Proper a → JoinedAs a (emptyLike a) o → Accepted o × (o .kept ≡ a)
+  pub empty-with : (a : Kept) (o : JoinOutcome) → Proper a → JoinedAs (emptyLike a) a o → Accepted o × (o .kept ≡ a)
   -- "and is refused exactly when no sending explains both"
   pub refused-exactly : (a b : Kept) (o : JoinOutcome) → OneSequence a b → JoinedAs a b o
       → Accepted o ↔ ((s : List ℕ) × Explains (heldBy a) s × Explains (heldBy b) s)
