@@ -17,7 +17,7 @@ use Rattle.reception.specs.Reporting.{gapsOf, sentPackets, sentOctets, heardPac
 use Rattle.reception.specs.Missing.{packetsIn, octetsIn}
 use Rattle.reception.proofs.DamagedExactly.{passed-undamaged}
 use Rattle.reception.proofs.ReportAccounts.{undamaged-sent, adds-up, gaps-right}
-use Rattle.reporting.specs.declared.writing.Written.{Written}
+use Rattle.reporting.specs.declared.writing.Filled.{Filled}
 use Rattle.reporting.specs.Writing.{reportWith}
 use Rattle.reporting.specs.Counting.{gapBetween, Ended}
 use Rattle.reporting.proofs.Counted.{gaps-counted}
@@ -77,7 +77,7 @@ module _ (h : Head) (marks elapsed sizes : List ℕ) (u : Undamaged (h .stamp) (
         }
 
   -- by the gaps in which the others are
-  module _ (w : Written) (packets-in : w .packets .0 ≡ packetsIn (gapsOf (heldIn h marks elapsed sizes))) (octets-in : w .octets .0 ≡ octetsIn (gapsOf (heldIn h marks elapsed sizes))) where
+  module _ (w : Filled) (packets-in : w .packets .0 ≡ packetsIn (gapsOf (heldIn h marks elapsed sizes))) (octets-in : w .octets .0 ≡ octetsIn (gapsOf (heldIn h marks elapsed sizes))) where
     missing-is : w .packets .0 ≡ sentPackets (heldIn h marks elapsed sizes) - heardPackets (heldIn h marks elapsed sizes)
     missing-is = packets-in ∙ gaps-right _ _ u .packets
 

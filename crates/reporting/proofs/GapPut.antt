@@ -11,14 +11,14 @@ use Rattle.fields.specs.Runs.{laid, front}
 use Rattle.fields.proofs.Laying.{laid-none, laid-first, laid-split}
 use Rattle.reception.specs.Reporting.{Gap, gapTo}
 use Rattle.reception.specs.Missing.{packetsIn, octetsIn}
-use Rattle.reporting.specs.declared.writing.Written.{Written}
+use Rattle.reporting.specs.declared.writing.Filled.{Filled}
 use Rattle.reporting.specs.Writing.{Room, Puts}
 
 laid-one : (s : List ℕ) (w x : ℕ) → w < length s → set s w x ≡ laid s w (x ∷ [])
 unfolding laid
 laid-one s w x lt = rw (add-one w, append-snoc (take w s) x (drop (suc w) s)) (set-split s w x lt)
 
-module _ (w : Written) (i a k e : ℕ) (firsts counts octets : List ℕ) where
+module _ (w : Filled) (i a k e : ℕ) (firsts counts octets : List ℕ) where
   -- there is none
   pub put-none : i ≡ k → Puts w (gapTo i a k e) firsts counts octets w firsts counts octets
   unfolding packetsIn octetsIn

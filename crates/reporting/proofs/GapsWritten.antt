@@ -12,7 +12,7 @@ use Rattle.reception.specs.Sendings.{Held}
 use Rattle.reception.specs.Reporting.{Gap, gapTo, gapsOf, sentPackets}
 use Rattle.reception.proofs.ReportAccounts.{SentAs}
 use Rattle.reception.specs.Missing.{packetsIn, octetsIn}
-use Rattle.reporting.specs.declared.writing.Written.{Written}
+use Rattle.reporting.specs.declared.writing.Filled.{Filled}
 use Rattle.reporting.specs.Writing.{Room, Puts}
 use Rattle.reporting.proofs.GapPut.{Laying, laying-start, laying-next}
 use Rattle.reporting.proofs.GapsLeft.{left, Going, going-start, all-left, next, going-heard, same, going-unheard, last-left}
@@ -29,14 +29,14 @@ octets-more [] gs = omega arith
 octets-more (x ∷ xs) gs = let p = octets-more xs gs in omega (arith, p)
 
 -- of the gaps in w and of the gaps gs to come, packets and octets are those of all gaps
-pub record Missing (w : Written) (i a : ℕ) (gs all : List Gap) : Type 0 where
+pub record Missing (w : Filled) (i a : ℕ) (gs all : List Gap) : Type 0 where
   pub packets-few : w .packets .0 ≤ i
   pub octets-few : w .octets .0 ≤ a
   pub packets-all : w .packets .0 + packetsIn gs ≡ packetsIn all
   pub octets-all : w .octets .0 + octetsIn gs ≡ octetsIn all
 
 -- the loop is at place k, and w is what was written
-pub record Writing (r : Held) (n : ℕ) (firsts₀ counts₀ octets₀ firsts counts octets : List ℕ) (i a : ℕ) (w : Written) (k : ℕ) : Type 0 where
+pub record Writing (r : Held) (n : ℕ) (firsts₀ counts₀ octets₀ firsts counts octets : List ℕ) (i a : ℕ) (w : Filled) (k : ℕ) : Type 0 where
   pub going : Going r n i a k
   pub missing : Missing w i a (left r n k i a) (gapsOf r)
   pub room : Room (w .next) (left r n k i a) firsts counts octets
@@ -45,11 +45,11 @@ pub record Writing (r : Held) (n : ℕ) (firsts₀ counts₀ octets₀ firsts co
   pub octets-laid : Laying (λ (g : Gap). g .octets) octets₀ octets (w .next) (left r n k i a) (gapsOf r)
 
 -- nothing was written yet
-abbrev pub noneWritten : Written
-noneWritten = record { next = 0; packets = record { 0 = 0 }; octets = record { 0 = 0 } }
+abbrev pub unfilled : Filled
+unfilled = record { next = 0; packets = record { 0 = 0 }; octets = record { 0 = 0 } }
 
 pub writing-start : (r : Held) (n : ℕ) (firsts counts octets : List ℕ) → (s : List ℕ) × SentAs r s → r .capacity ≤ mostCapacity → n ≡ sentPackets r
-    → Room 0 (gapsOf r) firsts counts octets → Writing r n firsts counts octets firsts counts octets 0 0 noneWritten 0
+    → Room 0 (gapsOf r) firsts counts octets → Writing r n firsts counts octets firsts counts octets 0 0 unfilled 0
 writing-start r n firsts counts octets x fits e room =
     let all = all-left r n e in
     record {
@@ -61,7 +61,7 @@ writing-start r n firsts counts octets x fits e room =
       octets-laid = rw all (laying-start _ _ _);
     }
 
-module _ (r : Held) (n : ℕ) (firsts₀ counts₀ octets₀ firsts counts octets : List ℕ) (i a : ℕ) (w : Written) (k : ℕ)
+module _ (r : Held) (n : ℕ) (firsts₀ counts₀ octets₀ firsts counts octets : List ℕ) (i a : ℕ) (w : Filled) (k : ℕ)
     (g : Writing r n firsts₀ counts₀ octets₀ firsts counts octets i a w k) where
   module _ (lt : k < n) where
     -- packet k was heard
@@ -75,7 +75,7 @@ module _ (r : Held) (n : ℕ) (firsts₀ counts₀ octets₀ firsts counts octet
           let m = length-append (gapTo i a k e) (left r n (k + 1) (k + 1) (e + l)) in
           record { firsts-fit = omega (arith, x .firsts-fit, m); counts-fit = omega (arith, x .counts-fit, m); octets-fit = omega (arith, x .octets-fit, m) }
 
-      pub heard-on : (v : Written) (firsts′ counts′ octets′ : List ℕ) → Puts w (gapTo i a k e) firsts counts octets v firsts′ counts′ octets′
+      pub heard-on : (v : Filled) (firsts′ counts′ octets′ : List ℕ) → Puts w (gapTo i a k e) firsts counts octets v firsts′ counts′ octets′
           → (v .packets .0 ≤ k) × (v .octets .0 ≤ e) → Writing r n firsts₀ counts₀ octets₀ firsts′ counts′ octets′ (k + 1) (e + l) v (k + 1)
       heard-on v firsts′ counts′ octets′ p few =
           let rest = left r n (k + 1) (k + 1) (e + l) in
@@ -126,13 +126,13 @@ module _ (r : Held) (n : ℕ) (firsts₀ counts₀ octets₀ firsts counts octet
     pub last-room : Room (w .next) (gapTo i a n (total .0)) firsts counts octets
     last-room = rw last at (g .room)
 
-    pub all-missing : (v : Written) (firsts′ counts′ octets′ : List ℕ) → Puts w (gapTo i a n (total .0)) firsts counts octets v firsts′ counts′ octets′
+    pub all-missing : (v : Filled) (firsts′ counts′ octets′ : List ℕ) → Puts w (gapTo i a n (total .0)) firsts counts octets v firsts′ counts′ octets′
         → (v .packets .0 ≡ packetsIn (gapsOf r)) × (v .octets .0 ≡ octetsIn (gapsOf r))
     all-missing v firsts′ counts′ octets′ p =
         let y : Missing w i a (gapTo i a n (total .0)) (gapsOf r) = rw last at (g .missing) in
         (p .packets ∙ y .packets-all, p .octets-in ∙ y .octets-all)
 
-    pub all-written : (v : Written) (firsts′ counts′ octets′ : List ℕ) → Puts w (gapTo i a n (total .0)) firsts counts octets v firsts′ counts′ octets′
+    pub all-written : (v : Filled) (firsts′ counts′ octets′ : List ℕ) → Puts w (gapTo i a n (total .0)) firsts counts octets v firsts′ counts′ octets′
         → (firsts′ ≡ front firsts₀ (map (λ (y : Gap). y .first) (gapsOf r))) × (counts′ ≡ front counts₀ (map (λ (y : Gap). y .count) (gapsOf r))) × (octets′ ≡ front octets₀ (map (λ (y : Gap). y .octets) (gapsOf r)))
     all-written v firsts′ counts′ octets′ p =
         let f = rw last at (g .firsts-laid) in

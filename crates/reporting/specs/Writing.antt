@@ -9,7 +9,7 @@ use Rattle.units.specs.declared.Packets.{Packets}
 use Rattle.reception.specs.declared.Report.{Report}
 use Rattle.reception.specs.Reporting.{Gap}
 use Rattle.reception.specs.Missing.{packetsIn, octetsIn}
-use Rattle.reporting.specs.declared.writing.Written.{Written}
+use Rattle.reporting.specs.declared.writing.Filled.{Filled}
 
 -- a list has room for the gaps gs from place w on
 pub record Room (w : ℕ) (gs : List Gap) (firsts counts octets : List ℕ) : Type 0 where
@@ -18,7 +18,7 @@ pub record Room (w : ℕ) (gs : List Gap) (firsts counts octets : List ℕ) : Ty
   pub octets-fit : w + length gs ≤ length octets
 
 -- behind what was written already, w, the gaps gs stand in the lists, nothing else differs, and n is what was written then
-pub record Puts (w : Written) (gs : List Gap) (firsts counts octets : List ℕ) (n : Written) (firsts′ counts′ octets′ : List ℕ) : Type 0 where
+pub record Puts (w : Filled) (gs : List Gap) (firsts counts octets : List ℕ) (n : Filled) (firsts′ counts′ octets′ : List ℕ) : Type 0 where
   pub next : n .next ≡ w .next + length gs
   pub packets : n .packets .0 ≡ w .packets .0 + packetsIn gs
   pub octets-in : n .octets .0 ≡ w .octets .0 + octetsIn gs
@@ -27,7 +27,7 @@ pub record Puts (w : Written) (gs : List Gap) (firsts counts octets : List ℕ) 
   pub octets-are : octets′ ≡ laid octets (w .next) (map (λ (g : Gap). g .octets) gs)
 
 -- the report by what was sent, and by the gaps in which the missing packets are
-abbrev pub reportWith : Packets → Octets → Written → ℕ → Report
+abbrev pub reportWith : Packets → Octets → Filled → ℕ → Report
 reportWith sent total w gaps =
     record {
       sent = sent;

@@ -17,7 +17,7 @@ use units::Refusal;
 use units::refusals::CAPACITIES_DIFFER;
 use units::refusals::NO_ROOM;
 use units::refusals::RECORD_DAMAGED;
-use writing::Written;
+use writing::Filled;
 use writing::write_gaps;
 ghost use mathlib.Core.Path.{_≡_};
 ghost use Prim.Native.Nat.{_≤_, min};
@@ -45,7 +45,7 @@ fn least(a: usize, b: usize) -> usize
 }
 
 // The report by what was sent and what of it is missing.
-fn made(sent: Packets, total: Octets, missing: Written, gaps: u32) -> Report
+fn made(sent: Packets, total: Octets, missing: Filled, gaps: u32) -> Report
     requires { ⌜ (missing .packets .0 ≤ sent .0) × (missing .octets .0 ≤ total .0) ⌝ }
     ensures { λ r. ⌜ r ≡ reportWith sent total missing gaps ⌝ }
 {

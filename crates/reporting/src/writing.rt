@@ -17,8 +17,8 @@ use reception::Head;
 use units::Octets;
 use units::Packets;
 
-// The gaps that were written: the place for the next one, and the packets and octets in them.
-pub struct Written {
+// How far the lists are filled: the place for the next gap, and the packets and octets in those before it.
+pub struct Filled {
     pub next: usize,
     pub packets: Packets,
     pub octets: Octets,
@@ -26,7 +26,7 @@ pub struct Written {
 
 // Writes the gap, if there is one, between packets that end before number i, at a octets, and packet k, before which are e.
 fn put(
-    t: Written,
+    t: Filled,
     i: u32,
     a: u64,
     k: u32,
@@ -34,7 +34,7 @@ fn put(
     firsts: &mut [u32],
     counts: &mut [u32],
     octets: &mut [u64],
-) -> Written
+) -> Filled
     requires { ⌜ (i ≤ k) × (a ≤ e) ⌝ }
     requires { ⌜ (t .packets .0 ≤ i) × (t .octets .0 ≤ a) ⌝ }
     requires { ⌜ Room (t .next) (gapTo i a k e) (now firsts) (now counts) (now octets) ⌝ }
@@ -49,7 +49,7 @@ fn put(
     firsts[w] = i;
     counts[w] = k - i;
     octets[w] = e - a;
-    Written {
+    Filled {
         next: w + 1,
         packets: Packets(t.packets.0 + (k - i)),
         octets: Octets(t.octets.0 + (e - a)),
@@ -66,7 +66,7 @@ pub fn write_gaps(
     firsts: &mut [u32],
     counts: &mut [u32],
     octets: &mut [u64],
-) -> Written
+) -> Filled
     requires { ⌜ Matched (now marks) (now elapsed) (now sizes) ⌝ }
     requires { ⌜ damagedKept (keptIn h (now marks) (now elapsed) (now sizes)) ≡ false ⌝ }
     requires { ⌜ n ≡ sentPackets (heldIn h (now marks) (now elapsed) (now sizes)) ⌝ }
@@ -82,7 +82,7 @@ pub fn write_gaps(
 {
     let mut i: u32 = 0;
     let mut a: u64 = 0;
-    let mut t = Written {
+    let mut t = Filled {
         next: 0,
         packets: Packets(0),
         octets: Octets(0),
