@@ -13,13 +13,13 @@ use Rattle.sender.specs.declared.Turning.{Turning}
 use Rattle.reception.specs.declared.Taken.{Taken}
 use Rattle.reception.specs.Hearing.{Kept, Outcome}
 use Rattle.reception.specs.Joining.{JoinOutcome}
-use Rattle.quimdoral.specs.Answers.{Writes, ListsInOne}
-use Rattle.quimdoral.specs.Exports.{Told}
-use Rattle.quimdoral.specs.Joins.{KeepsJoined}
-use Rattle.quimdoral.specs.Records.{Keeps, Numbers}
-use Rattle.quimdoral.specs.Reports.{Figures}
-use Rattle.quimdoral.specs.Senders.{MakesFresh, TurnsState, SendsState}
-use Rattle.quimdoral.specs.Ticks.{momentNumber, dueNumber}
+use Rattle.numbers_frames.specs.Reading.{ReadOut, ListsInOne}
+use Rattle.numbers_frames.specs.Writing.{Writes}
+use Rattle.numbers_sender.specs.Senders.{MakesFresh, TurnsState, SendsState}
+use Rattle.numbers_record.specs.Records.{Keeps, Numbers}
+use Rattle.numbers_join.specs.Joins.{KeepsJoined}
+use Rattle.numbers_report.specs.Reports.{Figures}
+use Rattle.numbers_ticks.specs.Ticks.{momentNumber, dueNumber}
 use Rattle.demands.specs.OneOutcome.{Fixes, Lent}
 
 pub record OneExported : Type 0 where
@@ -27,7 +27,7 @@ pub record OneExported : Type 0 where
   pub header-check : (s : List ℕ) → Fixes (λ (r : ℕ). r ≡ headerCheck s)
   pub payload-check : (s : List ℕ) → Fixes (λ (r : ℕ). r ≡ payloadCheck s)
   -- `quimdoral_read_frame`, `quimdoral_read_lengths`
-  pub read-frame : (p : ReadPaper) (old : List ℕ) → Fixes (λ (o : ℕ × Lent). Told p old (o .0) (o .1))
+  pub read-frame : (p : ReadPaper) (old : List ℕ) → Fixes (λ (o : ℕ × Lent). ReadOut p old (o .0) (o .1))
   pub read-lengths : (s old : List ℕ) → Fixes (λ (o : ℕ × Lent). ListsInOne s old (o .0) (o .1))
   -- `quimdoral_write_data`, `quimdoral_write_closing`, `quimdoral_write_closing_with_lengths`
   pub write : (a : Written) (frame old : List ℕ) → Fixes (λ (o : ℕ × Lent). Writes a frame old (o .0) (o .1))

@@ -1,38 +1,19 @@
-// Frames written from given fields, and the lengths of a Type 3 frame, as C and Rust get them: the answer in one number, which is 256
-// times how many octets or lengths were written, or a refusal's number.
-use frame::ClosingPdu;
-use frame::Listed;
-use frame::Written;
-use reader::read_lengths;
-use units::Octets;
-use units::Packets;
-use writer::write_closing;
-use writer::write_closing_with_lengths;
-use writer::write_data;
+// Frames: reading, lengths, and writing from given fields.
 ghost use mathlib.Core.Path.{_≡_};
-ghost use Prim.Native.Nat.{_*_, _≤_};
 ghost use lib.ListN.{length};
-ghost use Rattle.frame.specs.Paper.{writtenPaper};
+ghost use Rattle.frame.specs.Paper.{readPaper};
+ghost use Rattle.frame.specs.Reading.{readFrame};
 ghost use Rattle.frame.specs.Writing.{dataFrame, closingFrame, lengthsFrame, writeData, writeClosing, writeLengths};
-ghost use Rattle.quimdoral.specs.Answers.{mostCounted, inOne, closingGiven, Writes, ListsInOne};
+ghost use Rattle.numbers_frames.specs.Reading.{ReadOut, ListsInOne};
+ghost use Rattle.numbers_frames.specs.Writing.{closingGiven, Writes};
 
-// So many octets, where they can be answered in one number.
-pub fn counted(n: usize) -> u64
-    requires { ⌜ n ≤ mostCounted ⌝ }
-    ensures { λ r. ⌜ r ≡ 256 * n ⌝ }
+// Reads a frame. Answers 0 and writes seven numbers: one more than the PDU type, stamp, packet number, elapsed octets, total
+// packets, total octets, payload length. Or answers the refusal's number and writes nothing.
+#[no_mangle]
+pub extern "C" fn quimdoral_read_frame(frame: &[u8], said: &mut [u64]) -> u8
+    ensures { λ r. ⌜ ReadOut (readPaper (readFrame (now (frame .entry)))) (now (said .entry)) r (now (said .exit)) ⌝ }
 {
-    256 * (n as u64)
-}
-
-// How a frame was written, in one number.
-fn written_in_one(w: Written) -> u64
-    requires { ⌜ writtenPaper w .count ≤ mostCounted ⌝ }
-    ensures { λ r. ⌜ r ≡ inOne (writtenPaper w) ⌝ }
-{
-    match w {
-        Written::Refused(r) => r.number as u64,
-        Written::Done(n) => counted(n),
-    }
+    numbers_frames::read_numbers(frame, said)
 }
 
 // The lengths of a Type 3 frame, in front of a lent list. A frame of another type has none.
@@ -40,11 +21,7 @@ fn written_in_one(w: Written) -> u64
 pub extern "C" fn quimdoral_read_lengths(frame: &[u8], lengths: &mut [u16]) -> u64
     ensures { λ r. ⌜ ListsInOne (now (frame .entry)) (now (lengths .entry)) r (now (lengths .exit)) ⌝ }
 {
-    let listed = read_lengths(frame, lengths);
-    match listed {
-        Listed::Refused(r) => r.number as u64,
-        Listed::Lengths(n) => 256 * (n.0 as u64),
-    }
+    numbers_frames::lengths_in_one(frame, lengths)
 }
 
 // Writes a data PDU (Type 1).
@@ -61,20 +38,7 @@ pub extern "C" fn quimdoral_write_data(
         (dataFrame stamp number elapsed (now (payload .entry)))
         (now (out .entry)) r (now (out .exit)) ⌝ }
 {
-    let written = write_data(stamp, Packets(number), Octets(elapsed), payload, out);
-    written_in_one(written)
-}
-
-fn closing_given(stamp: u32, number: u32, elapsed: u64, packets: u32, octets: u64) -> ClosingPdu
-    ensures { λ r. ⌜ r ≡ closingGiven stamp number elapsed packets octets ⌝ }
-{
-    ClosingPdu {
-        stamp,
-        number: Packets(number),
-        elapsed: Octets(elapsed),
-        packets: Packets(packets),
-        octets: Octets(octets),
-    }
+    numbers_frames::data_in_one(stamp, number, elapsed, payload, out)
 }
 
 // Writes a closing PDU without lengths (Type 0).
@@ -92,9 +56,7 @@ pub extern "C" fn quimdoral_write_closing(
         (closingFrame (closingGiven stamp number elapsed packets octets))
         (now (out .entry)) r (now (out .exit)) ⌝ }
 {
-    let c = closing_given(stamp, number, elapsed, packets, octets);
-    let written = write_closing(c, out);
-    written_in_one(written)
+    numbers_frames::closing_in_one(stamp, number, elapsed, packets, octets, out)
 }
 
 // Writes a closing PDU with the length of each packet (Type 3).
@@ -113,7 +75,13 @@ pub extern "C" fn quimdoral_write_closing_with_lengths(
         (lengthsFrame (closingGiven stamp number elapsed packets octets) (now (lengths .entry)))
         (now (out .entry)) r (now (out .exit)) ⌝ }
 {
-    let given = closing_given(stamp, number, elapsed, packets, octets);
-    let written = write_closing_with_lengths(given, lengths, out);
-    written_in_one(written)
+    numbers_frames::closing_with_lengths_in_one(
+        stamp,
+        number,
+        elapsed,
+        packets,
+        octets,
+        lengths,
+        out,
+    )
 }

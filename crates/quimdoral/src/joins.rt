@@ -1,25 +1,8 @@
-// Joins as C and Rust get them: the answer in one number.
-use crate::records::head_of;
-use crate::records::put_head;
-use joining::join;
-use reception::Joined;
-use units::refusals::CAPACITIES_DIFFER;
-use units::refusals::CONTRADICTION;
-ghost use mathlib.Core.Path.{_≡_};
-ghost use Prim.Native.Nat.{_+_, _*_, _≤_};
-ghost use Rattle.units.specs.Refusals.{contradiction};
+// Joins of records.
 ghost use Rattle.reception.specs.Hearing.{keptIn};
 ghost use Rattle.reception.specs.Joining.{joinRecords};
-ghost use Rattle.quimdoral.specs.Records.{headOf};
-ghost use Rattle.quimdoral.specs.Joins.{KeepsJoined};
-
-// Refusal 11 and the number that it names, which has at most 17 bits.
-fn named(n: u32) -> u32
-    requires { ⌜ n ≤ 65536 ⌝ }
-    ensures { λ r. ⌜ r ≡ contradiction + 256 * n ⌝ }
-{
-    CONTRADICTION as u32 + 256 * n
-}
+ghost use Rattle.numbers_head.specs.Heads.{headOf};
+ghost use Rattle.numbers_join.specs.Joins.{KeepsJoined};
 
 // Joins a right record into a left one. Answers 0, or a refusal's number; with 11, the number that it names times 256 is added.
 #[no_mangle]
@@ -39,23 +22,14 @@ pub extern "C" fn quimdoral_join(
         (keptIn (headOf (now («r_head» .entry))) (now («r_marks» .entry)) (now («r_elapsed» .entry)) (now («r_sizes» .entry))))
         r (now (head .exit)) (now (marks .exit)) (now (elapsed .exit)) (now (sizes .exit)) ⌝ }
 {
-    if head.len() < 6 {
-        return CAPACITIES_DIFFER as u32;
-    }
-    if r_head.len() < 6 {
-        return CAPACITIES_DIFFER as u32;
-    }
-    let h = head_of(head);
-    let g = head_of(r_head);
-    let t = join(h, marks, elapsed, sizes, g, r_marks, r_elapsed, r_sizes);
-    let after = t.head;
-    let answer = t.answer;
-    match answer {
-        Joined::Refused(r) => r.number as u32,
-        Joined::Contradicted(n) => named(n),
-        Joined::Done => {
-            put_head(head, after);
-            0
-        }
-    }
+    numbers_join::join_in_one(
+        head,
+        marks,
+        elapsed,
+        sizes,
+        r_head,
+        r_marks,
+        r_elapsed,
+        r_sizes,
+    )
 }

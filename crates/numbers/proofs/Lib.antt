@@ -1,0 +1,2 @@
+pub mod InOne
+pub mod StoredInFront

@@ -1,0 +1,125 @@
+// Records as C and Rust keep them: the head in a list of six numbers, and beside it marks, elapsed octets and lengths, one list each and
+// one place a packet number.
+use hearing::fresh;
+use hearing::hear;
+use numbers_head::head_of;
+use numbers_head::put_head;
+use reception::Taken;
+use several::hear_sequence;
+use units::refusals::CAPACITIES_DIFFER;
+ghost use lib.ListN.{length};
+ghost use Rattle.reception.specs.Hearing.{keptIn, unused, emptyKept, freshRecord, hearFrame};
+ghost use Rattle.reception.specs.Several.{answers, framesIn, hearSequence};
+ghost use Rattle.numbers_head.specs.Heads.{headOf};
+ghost use Rattle.numbers_record.specs.Records.{Keeps, Numbers};
+
+// Makes an empty record of a key. Answers 0, or a refusal's number.
+pub fn fresh_record(
+    bearer: u32,
+    period: u32,
+    stamp: u32,
+    head: &mut [u64],
+    marks: &mut [u8],
+    elapsed: &mut [u32],
+    sizes: &mut [u16],
+) -> u8
+    ensures { λ r. ⌜ Keeps (now (head .entry))
+        (unused (now (marks .entry)) (now (elapsed .entry)) (now (sizes .entry)))
+        (freshRecord bearer period stamp (now (marks .entry)) (now (elapsed .entry)) (now (sizes .entry)))
+        r (now (head .exit)) (now (marks .exit)) (now (elapsed .exit)) (now (sizes .exit)) ⌝ }
+{
+    if head.len() < 6 {
+        return CAPACITIES_DIFFER;
+    }
+    let t = fresh(bearer, period, stamp, marks, elapsed, sizes);
+    let after = t.head;
+    let answer = t.answer;
+    match answer {
+        Taken::Refused(r) => r.number,
+        Taken::Done => {
+            put_head(head, after);
+            0
+        }
+    }
+}
+
+// Takes a frame into a record. Answers 0, or a refusal's number.
+pub fn hear_frame(
+    head: &mut [u64],
+    marks: &mut [u8],
+    elapsed: &mut [u32],
+    sizes: &mut [u16],
+    bearer: u32,
+    period: u32,
+    frame: &[u8],
+) -> u8
+    ensures { λ r. ⌜ Keeps (now (head .entry))
+        (keptIn (headOf (now (head .entry))) (now (marks .entry)) (now (elapsed .entry)) (now (sizes .entry)))
+        (hearFrame (keptIn (headOf (now (head .entry))) (now (marks .entry)) (now (elapsed .entry)) (now (sizes .entry))) bearer period (now (frame .entry)))
+        r (now (head .exit)) (now (marks .exit)) (now (elapsed .exit)) (now (sizes .exit)) ⌝ }
+{
+    if head.len() < 6 {
+        return CAPACITIES_DIFFER;
+    }
+    let h = head_of(head);
+    let t = hear(h, marks, elapsed, sizes, bearer, period, frame);
+    let after = t.head;
+    let answer = t.answer;
+    match answer {
+        Taken::Refused(r) => r.number,
+        Taken::Done => {
+            put_head(head, after);
+            0
+        }
+    }
+}
+
+// Hears many frames into an empty record of a key: they stand in one row of octets, and each is given by the place where it ends.
+// The answer to each goes in front of a lent list. Answers 0, or the number of the refusal of all.
+pub fn hear_all(
+    bearer: u32,
+    period: u32,
+    stamp: u32,
+    head: &mut [u64],
+    marks: &mut [u8],
+    elapsed: &mut [u32],
+    sizes: &mut [u16],
+    octets: &[u8],
+    ends: &[u32],
+    numbers: &mut [u8],
+) -> u8
+    ensures { λ r. ⌜ Keeps (now (head .entry))
+        (unused (now (marks .entry)) (now (elapsed .entry)) (now (sizes .entry)))
+        (hearSequence bearer period stamp (unused (now (marks .entry)) (now (elapsed .entry)) (now (sizes .entry)))
+        (framesIn (now (octets .entry)) 0 (now (ends .entry))) (length (now (numbers .entry))))
+        r (now (head .exit)) (now (marks .exit)) (now (elapsed .exit)) (now (sizes .exit)) ⌝ }
+    ensures { λ r. ⌜ Numbers (now (head .entry))
+        (hearSequence bearer period stamp (unused (now (marks .entry)) (now (elapsed .entry)) (now (sizes .entry)))
+        (framesIn (now (octets .entry)) 0 (now (ends .entry))) (length (now (numbers .entry))))
+        (answers (emptyKept bearer period stamp (length (now (marks .entry)))) bearer period (framesIn (now (octets .entry)) 0 (now (ends .entry))))
+        (now (numbers .entry)) (now (numbers .exit)) ⌝ }
+{
+    if head.len() < 6 {
+        return CAPACITIES_DIFFER;
+    }
+    let t = hear_sequence(
+        bearer,
+        period,
+        stamp,
+        marks,
+        elapsed,
+        sizes,
+        octets,
+        ends,
+        numbers,
+    );
+    let after = t.head;
+    let answer = t.answer;
+    match answer {
+        Taken::Refused(r) => r.number,
+        Taken::Done => {
+            put_head(head, after);
+            0
+        }
+    }
+}

@@ -1,0 +1,138 @@
+-- How the answers of a sender's calls meet the promises. Assumes nothing.
+use Prim.Native.Nat.{ℕ, zero, suc, _+_, _≤_, _<_}
+use mathlib.Core.Path.{_≡_, refl, sym, ap, _∙_}
+use mathlib.Core.Bool.{false, not}
+use mathlib.Core.List.{List}
+use native.Mathlib.Omega.{arith}
+use lib.Dec.{ltb, leb}
+use lib.ListN.{length}
+use borrow.Author.Tests.{lt-ltb, le-ltb, ltb-false}
+use Rattle.units.specs.declared.Refusal.{Refusal}
+use Rattle.units.specs.Limits.{lastStamp, mostPayload, mostInSequence, mostPeriodPackets, mostPeriodOctets}
+use Rattle.units.specs.Refusals.{noRoom, senderDamaged}
+use Rattle.fields.specs.Runs.{front}
+use Rattle.fields.proofs.Tests.{or-false}
+use Rattle.frame.specs.declared.Written.{Written}
+use Rattle.frame.specs.declared.Written.the-variants.{Done, Refused}
+use Rattle.frame.specs.Counts.{listWrong}
+use Rattle.frame.specs.Layout.{filled}
+use Rattle.frame.specs.Paper.{CountPaper, writtenPaper}
+use Rattle.frame.specs.Writing.{after}
+use Rattle.frame.proofs.OnePaper.{written-known}
+use Rattle.sender.specs.declared.Sender.{Sender}
+use Rattle.sender.specs.declared.Sending.{Sending}
+use Rattle.sender.specs.declared.Turned.{Turned}
+use Rattle.sender.specs.declared.Turned.the-variants.{Done as TurnDone, Refused as NotTurned}
+use Rattle.sender.specs.declared.Turning.{Turning}
+use Rattle.sender.specs.State.{damaged, isOpen, freshSender}
+use Rattle.sender.specs.Calls.{dataCall, closeCall, closeWithCall, turnedPaper, Turns, Sends}
+use Rattle.numbers.specs.Answers.{inOne}
+use Rattle.numbers_state.specs.States.{stateOf, withState}
+use Rattle.numbers_sender.specs.Senders.{turnedState, sentState, MakesFresh, TurnsState, SendsState}
+use Rattle.numbers.proofs.InOne.{Few, lengths-few}
+use Rattle.fields.proofs.Choosing.{tested}
+
+-- a turn's number and the state after it
+module _ (a : Turned) where
+  pub turn-refused : (x : Refusal) (old : List ℕ) (s : Sender) → a ≡ NotTurned x → (x .number ≡ turnedPaper a .number) × (old ≡ turnedState a old s)
+  unfolding turnedPaper
+  turn-refused x old s e = (rw e refl, rw e refl)
+
+  pub turn-done : (old new : List ℕ) (s : Sender) → 6 ≤ length old → a ≡ TurnDone → new ≡ withState old s → (0 ≡ turnedPaper a .number) × (new ≡ turnedState a old s)
+  unfolding turnedPaper
+  turn-done old new s h e l = (rw e refl, l ∙ rw (e, le-ltb (length old) 6 h) refl)
+
+-- a turn is known from its paper
+turnedFrom : ℕ → CountPaper → Turned
+turnedFrom zero p = NotTurned (record { number = p .number })
+turnedFrom (suc k) p = TurnDone
+
+turned-from : (a : Turned) → turnedFrom (turnedPaper a .accepted) (turnedPaper a) ≡ a
+unfolding turnedFrom turnedPaper
+turned-from TurnDone = refl
+turned-from (NotTurned r) = refl
+
+turned-known : (a b : Turned) → turnedPaper a ≡ turnedPaper b → a ≡ b
+turned-known a b e = sym (turned-from a) ∙ ap (λ (p : CountPaper). turnedFrom (p .accepted) p) e ∙ turned-from b
+
+-- the state after a frame was written, or refused
+pub sent-refused : (w : Written) (x : Refusal) (old : List ℕ) (s : Sender) → w ≡ Refused x → old ≡ sentState w old s
+sent-refused w x old s e = rw e refl
+
+pub sent-done : (w : Written) (n : ℕ) (old new : List ℕ) (s : Sender) → 6 ≤ length old → w ≡ Done n → new ≡ withState old s → new ≡ sentState w old s
+sent-done w n old new s h e l = l ∙ rw (e, le-ltb (length old) 6 h) refl
+
+-- no frame that the sender writes has more octets than can be answered
+abbrev pub FewSent : Sending → Type 0
+FewSent t = Few (t .answer)
+
+pub few-sent : (s : Sender) (l room : ℕ) → FewSent (dataCall s l room)
+unfolding dataCall writtenPaper
+few-sent s l room =
+    tested FewSent _ _ (damaged s) (λ _. omega arith)
+    (λ _.
+    tested FewSent _ _ (not (isOpen (s .phase))) (λ _. omega arith)
+    (λ _.
+    tested FewSent _ _ (ltb mostPayload l) (λ _. omega arith)
+    (λ h.
+    tested FewSent _ _ (leb mostInSequence (s .number .0)) (λ _. omega arith)
+    (λ _.
+    tested FewSent _ _ (leb mostPeriodPackets (s .packets .0)) (λ _. omega arith)
+    (λ _.
+    tested FewSent _ _ (ltb mostPeriodOctets (s .octets .0 + l)) (λ _. omega arith)
+    (λ _. tested FewSent _ _ (ltb room (11 + l)) (λ _. omega arith) (λ _. omega (arith, ltb-false mostPayload l h))))))))
+
+pub few-closed : (s : Sender) (room : ℕ) → FewSent (closeCall s room)
+unfolding closeCall writtenPaper
+few-closed s room =
+    tested FewSent _ _ (damaged s) (λ _. omega arith)
+    (λ _.
+    tested FewSent _ _ (not (isOpen (s .phase))) (λ _. omega arith)
+    (λ _. tested FewSent _ _ (ltb room 18) (λ _. omega arith) (λ _. omega arith)))
+
+number-few : (s : Sender) → damaged s ≡ false → s .number .0 ≤ 65535
+unfolding damaged
+number-few s w =
+    let p = or-false (ltb lastStamp (s .stamp)) _ w .1 in
+    ltb-false mostInSequence (s .number .0) (or-false (ltb mostInSequence (s .number .0)) _ p .0)
+
+pub few-closed-with : (s : Sender) (ls : List ℕ) (room : ℕ) → FewSent (closeWithCall s ls room)
+unfolding closeWithCall writtenPaper
+few-closed-with s ls room =
+    tested FewSent _ _ (damaged s) (λ _. omega arith)
+    (λ d.
+    tested FewSent _ _ (not (isOpen (s .phase))) (λ _. omega arith)
+    (λ _.
+    tested FewSent _ _ (listWrong ls (s .number .0) (s .elapsed .0)) (λ _. omega arith)
+    (λ h.
+    tested FewSent _ _ (ltb room (19 + filled (length ls))) (λ _. omega arith)
+    (λ _. lengths-few ls (s .number .0) (s .elapsed .0) h (number-few s d)))))
+
+-- a list too short for a state, and one that has room
+pub short-fresh : (old : List ℕ) → length old < 6 → MakesFresh old noRoom old
+short-fresh old h = let q = lt-ltb (length old) 6 h in record { says = rw q refl; leaves = rw q refl }
+
+pub made-fresh : (old new : List ℕ) → 6 ≤ length old → new ≡ withState old freshSender → MakesFresh old 0 new
+made-fresh old new h l = let q = le-ltb (length old) 6 h in record { says = rw q refl; leaves = l ∙ rw q refl }
+
+pub short-turn : (old : List ℕ) (t : Turning) → length old < 6 → TurnsState old t senderDamaged old
+short-turn old t h = let q = lt-ltb (length old) 6 h in record { says = rw q refl; leaves-state = rw q refl }
+
+pub turned : (old new : List ℕ) (t r : Turning) (x : ℕ) → 6 ≤ length old → Turns t r → x ≡ turnedPaper (r .answer) .number → new ≡ turnedState (r .answer) old (r .sender)
+    → TurnsState old t x new
+turned old new t r x h p e l =
+    let q = le-ltb (length old) 6 h in
+    let a = turned-known (r .answer) (t .answer) (p .says) in
+    record { says = e ∙ rw (q, a) refl; leaves-state = l ∙ rw (q, a, p .next) refl }
+
+pub short-send : (old : List ℕ) (t : Sending) (frame out : List ℕ) → length old < 6 → SendsState old t frame out senderDamaged old out
+short-send old t frame out h =
+    let q = lt-ltb (length old) 6 h in
+    record { says = rw q refl; leaves-state = rw q refl; leaves-out = rw q refl }
+
+pub sent : (old new : List ℕ) (t r : Sending) (frame out out′ : List ℕ) (x : ℕ) → 6 ≤ length old → Sends t frame out r out′ → x ≡ inOne (writtenPaper (r .answer))
+    → new ≡ sentState (r .answer) old (r .sender) → SendsState old t frame out x new out′
+sent old new t r frame out out′ x h p e l =
+    let q = le-ltb (length old) 6 h in
+    let a = written-known (r .answer) (t .answer) (p .says) in
+    record { says = e ∙ rw (q, a) refl; leaves-state = l ∙ rw (q, a, p .next) refl; leaves-out = p .leaves ∙ rw q refl }
