@@ -19,7 +19,7 @@ use Rattle.frame.specs.declared.Written.{Written}
 use Rattle.frame.proofs.Written as W
 use Rattle.frame.proofs.Written.Laws as W′
 use Rattle.sender.specs.declared.Sender.{Sender}
-use Rattle.sender.specs.declared.Sending.{Sending}
+use Rattle.sender.specs.declared.Dispatch.{Dispatch}
 use Rattle.sender.specs.declared.Turned.{Turned}
 use Rattle.sender.specs.declared.Turning.{Turning}
 use Rattle.sender.proofs.Sender as S
@@ -28,8 +28,8 @@ use Rattle.sender.proofs.Turned as T
 use Rattle.sender.proofs.Turned.Laws as T′
 use Rattle.sender.proofs.Turning as Tg
 use Rattle.sender.proofs.Turning.Laws as Tg′
-use Rattle.sender.proofs.Sending as Sg
-use Rattle.sender.proofs.Sending.Laws as Sg′
+use Rattle.sender.proofs.Dispatch as Sg
+use Rattle.sender.proofs.Dispatch.Laws as Sg′
 
 abbrev pub mach : Sender → Val
 mach s = LL.val S.the-type S′.the-laws s
@@ -55,16 +55,16 @@ module _ (r : Turning) (v : Val) (is : Is Tg.the-row r (v ∷ [])) where
   pub turning-sender : Is S.the-row (r .sender) (mach (r .sender) ∷ [])
   turning-sender = LL.owed Tg.the-type Tg′.the-laws r _ is .1 .0
 
--- the value of what sending gives
-module _ (r : Sending) (v : Val) (is : Is Sg.the-row r (v ∷ [])) where
-  pub sending-is : v ≡ LL.val Sg.the-type Sg′.the-laws r
-  sending-is = ap only (LL.tells Sg.the-type Sg′.the-laws r _ is)
+-- the value of a dispatch
+module _ (r : Dispatch) (v : Val) (is : Is Sg.the-row r (v ∷ [])) where
+  pub dispatch-is : v ≡ LL.val Sg.the-type Sg′.the-laws r
+  dispatch-is = ap only (LL.tells Sg.the-type Sg′.the-laws r _ is)
 
-  pub sending-answer : Is W.the-row (r .answer) (written (r .answer) ∷ [])
-  sending-answer = LL.owed Sg.the-type Sg′.the-laws r _ is .0
+  pub dispatch-answer : Is W.the-row (r .answer) (written (r .answer) ∷ [])
+  dispatch-answer = LL.owed Sg.the-type Sg′.the-laws r _ is .0
 
-  pub sending-sender : Is S.the-row (r .sender) (mach (r .sender) ∷ [])
-  sending-sender = LL.owed Sg.the-type Sg′.the-laws r _ is .1 .0
+  pub dispatch-sender : Is S.the-row (r .sender) (mach (r .sender) ∷ [])
+  dispatch-sender = LL.owed Sg.the-type Sg′.the-laws r _ is .1 .0
 
 -- values are of their types
 module _ {M : Type 1} {𝓤 : URA M} {H : Heap 𝓤} {A : Atoms 𝓤} (G : Given 𝓤 H A) {v : Val} where
@@ -80,8 +80,8 @@ module _ {M : Type 1} {𝓤 : URA M} {H : Heap 𝓤} {A : Atoms 𝓤} (G : Given
   pub turning-typed : (r : Turning) → Is Tg.the-row r (v ∷ []) → Typed (Tg.the-row .mir) (v ∷ [])
   turning-typed r is = LL.lawful Tg.the-type Tg′.the-laws 𝓤 H A G .typed r _ is
 
-  pub sending-typed : (r : Sending) → Is Sg.the-row r (v ∷ []) → Typed (Sg.the-row .mir) (v ∷ [])
-  sending-typed r is = LL.lawful Sg.the-type Sg′.the-laws 𝓤 H A G .typed r _ is
+  pub dispatch-typed : (r : Dispatch) → Is Sg.the-row r (v ∷ []) → Typed (Sg.the-row .mir) (v ∷ [])
+  dispatch-typed r is = LL.lawful Sg.the-type Sg′.the-laws 𝓤 H A G .typed r _ is
 
 -- what a sender or an answer owns is had for nothing
 module _ {M : Type 1} (𝓤 : URA M) (H : Heap 𝓤) (A : Atoms 𝓤) where

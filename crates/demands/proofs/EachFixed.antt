@@ -1,6 +1,6 @@
 -- Each promise fixes its outcome: one law, cited for each function. Assumes nothing.
-use Prim.Native.Nat.{ℕ, zero, suc}
-use mathlib.Core.Path.{_≡_, refl, sym, ap, _∙_}
+use Prim.Native.Nat.{ℕ}
+use mathlib.Core.Path.{_≡_, sym, _∙_}
 use mathlib.Core.List.{List}
 use lib.ListN.{length}
 use Rattle.clock.proofs.OnePaper.{moment-known, due-known}
@@ -8,17 +8,15 @@ use Rattle.clock.specs.Clock.{stampOf, dueAt}
 use Rattle.frame.specs.declared.Listed.{Listed}
 use Rattle.frame.specs.declared.Written.{Written}
 use Rattle.frame.specs.Listing.{listLengths, listed}
-use Rattle.frame.specs.Paper.{CountPaper}
 use Rattle.frame.specs.Reading.{readFrame}
 use Rattle.frame.specs.Writing.{after}
 use Rattle.frame.proofs.OnePaper.{read-known, written-known, listed-known}
 use Rattle.reader.specs.Lists.{Lists}
 use Rattle.writer.specs.Promise.{Wrote}
-use Rattle.sender.specs.declared.Sending.{Sending}
-use Rattle.sender.specs.declared.Turned.{Turned}
-use Rattle.sender.specs.declared.Turned.the-variants.{Done as TurnDone, Refused as NotTurned}
+use Rattle.sender.specs.declared.Dispatch.{Dispatch}
 use Rattle.sender.specs.declared.Turning.{Turning}
-use Rattle.sender.specs.Calls.{turnedPaper, Turns, Sends}
+use Rattle.sender.specs.Calls.{Turns, Sends}
+use Rattle.sender.proofs.OnePaper.{turned-known}
 use Rattle.reception.specs.declared.Joining.{Joining}
 use Rattle.reception.specs.declared.Reported.{Reported}
 use Rattle.reception.specs.declared.Taken.{Taken}
@@ -44,9 +42,9 @@ wrote a frame old =
     fixed-by (λ (o : Written × List ℕ). Wrote a frame old (o .0) (o .1)) (a, after a frame old)
     (λ o p. λ i. (written-known (o .0) a (p .says) i, p .leaves i))
 
-sends : (t : Sending) (frame old : List ℕ) → Fixes (λ (o : Sending × List ℕ). Sends t frame old (o .0) (o .1))
+sends : (t : Dispatch) (frame old : List ℕ) → Fixes (λ (o : Dispatch × List ℕ). Sends t frame old (o .0) (o .1))
 sends t frame old =
-    fixed-by (λ (o : Sending × List ℕ). Sends t frame old (o .0) (o .1)) (t, after (t .answer) frame old)
+    fixed-by (λ (o : Dispatch × List ℕ). Sends t frame old (o .0) (o .1)) (t, after (t .answer) frame old)
     (λ o p. λ i. (record { answer = written-known (o .0 .answer) (t .answer) (p .says) i; sender = p .next i }, p .leaves i))
 
 takes-one : (t : Outcome) → Fixes (λ (o : Taking × List ℕ × List ℕ × List ℕ). Takes t (o .0) (o .1) (o .2) (o .3))
@@ -66,19 +64,6 @@ lists s old =
     let a = listLengths (readFrame s) (length old) in
     fixed-by (λ (o : Listed × List ℕ). Lists s old (o .0) (o .1)) (a, listed a s old)
     (λ o p. λ i. (listed-known (o .0) a (p .says) i, p .leaves i))
-
--- a turn of the sender, from what its paper says
-turnedFrom : ℕ → CountPaper → Turned
-turnedFrom zero p = NotTurned (record { number = p .number })
-turnedFrom (suc k) p = TurnDone
-
-turned-from : (t : Turned) → turnedFrom (turnedPaper t .accepted) (turnedPaper t) ≡ t
-unfolding turnedFrom turnedPaper
-turned-from TurnDone = refl
-turned-from (NotTurned r) = refl
-
-turned-known : (a b : Turned) → turnedPaper a ≡ turnedPaper b → a ≡ b
-turned-known a b e = sym (turned-from a) ∙ ap (λ (p : CountPaper). turnedFrom (p .accepted) p) e ∙ turned-from b
 
 turns : (t : Turning) → Fixes (Turns t)
 turns t =

@@ -11,7 +11,7 @@ use Rattle.frame.specs.Counts.{listWrong}
 use Rattle.frame.specs.Layout.{filled}
 use Rattle.frame.specs.Paper.{writtenPaper}
 use Rattle.sender.specs.declared.Sender.{Sender}
-use Rattle.sender.specs.declared.Sending.{Sending}
+use Rattle.sender.specs.declared.Dispatch.{Dispatch}
 use Rattle.sender.specs.declared.Turning.{Turning}
 use Rattle.sender.specs.State.{damaged, isOpen, notLater}
 use Rattle.sender.specs.Calls.{turnedPaper, openCall, renewCall, dataCall, closeCall, closeWithCall, Turns, Sends}
@@ -39,12 +39,12 @@ renew-carries s =
     (λ _. whichever (TurnsOn ofNewPeriod s) _ _ (isOpen (s .phase)) (refl, λ _. refl) (λ _. (refl, no-zero)))
 
 -- calls that write a frame
-abbrev pub Stays : List ℕ → Sender → Sending → Type 0
+abbrev pub Stays : List ℕ → Sender → Dispatch → Type 0
 Stays numbers s t =
     (carries numbers (writtenPaper (t .answer) .number) (writtenPaper (t .answer) .accepted) ≡ true)
     × (writtenPaper (t .answer) .accepted ≡ 0 → t .sender ≡ s)
 
-pub sends-carry : (numbers : List ℕ) (s : Sender) (t : Sending) (frame old : List ℕ) (r : Sending) (new : List ℕ)
+pub sends-carry : (numbers : List ℕ) (s : Sender) (t : Dispatch) (frame old : List ℕ) (r : Dispatch) (new : List ℕ)
     → Stays numbers s t → Sends t frame old r new → SendsOn numbers s r old new
 sends-carry numbers s t frame old r new c w = (
   rw (w .says) (c .0),

@@ -21,7 +21,7 @@ use Rattle.frame.specs.Writing.{writeData, writeClosing, writeLengths, dataFram
 use Rattle.reader.specs.Lists.{Lists}
 use Rattle.writer.specs.Promise.{Wrote}
 use Rattle.sender.specs.declared.Sender.{Sender}
-use Rattle.sender.specs.declared.Sending.{Sending}
+use Rattle.sender.specs.declared.Dispatch.{Dispatch}
 use Rattle.sender.specs.declared.Turning.{Turning}
 use Rattle.sender.specs.State.{closingBy}
 use Rattle.sender.specs.Calls.{turnedPaper, openCall, renewCall, dataCall, closeCall, closeWithCall, Turns, Sends}
@@ -106,7 +106,7 @@ abbrev pub Writes : List ℕ → CountPaper → List ℕ → List ℕ → Type 0
 Writes numbers p old new = (carries numbers (p .number) (p .accepted) ≡ true) × (p .accepted ≡ 0 → new ≡ old)
 
 -- what a call of the sender does, with the sender too
-abbrev pub SendsOn : List ℕ → Sender → Sending → List ℕ → List ℕ → Type 0
+abbrev pub SendsOn : List ℕ → Sender → Dispatch → List ℕ → List ℕ → Type 0
 SendsOn numbers s r old new =
     (carries numbers (writtenPaper (r .answer) .number) (writtenPaper (r .answer) .accepted) ≡ true)
     × (writtenPaper (r .answer) .accepted ≡ 0 → (r .sender ≡ s) × (new ≡ old))
@@ -133,12 +133,12 @@ pub record Demand1 : Type 0 where
       → Wrote (writeLengths c ls (length old)) (lengthsFrame c ls) old r new → Writes ofWritingLengths (writtenPaper r) old new
   pub opening : (s : Sender) (stamp : ℕ) (r : Turning) → Turns (openCall s stamp) r → TurnsOn ofOpening s r
   pub renewing : (s : Sender) (r : Turning) → Turns (renewCall s) r → TurnsOn ofNewPeriod s r
-  pub sending : (s : Sender) (p old : List ℕ) (r : Sending) (new : List ℕ)
+  pub sending : (s : Sender) (p old : List ℕ) (r : Dispatch) (new : List ℕ)
       → Sends (dataCall s (length p) (length old)) (dataFrame (s .stamp) (s .number .0) (s .elapsed .0) p) old r new
       → SendsOn ofData s r old new
-  pub closing : (s : Sender) (old : List ℕ) (r : Sending) (new : List ℕ) → Sends (closeCall s (length old)) (closingFrame (closingBy s)) old r new
+  pub closing : (s : Sender) (old : List ℕ) (r : Dispatch) (new : List ℕ) → Sends (closeCall s (length old)) (closingFrame (closingBy s)) old r new
       → SendsOn ofClosing s r old new
-  pub closing-with-lengths : (s : Sender) (ls old : List ℕ) (r : Sending) (new : List ℕ)
+  pub closing-with-lengths : (s : Sender) (ls old : List ℕ) (r : Dispatch) (new : List ℕ)
       → Sends (closeWithCall s ls (length old)) (lengthsFrame (closingBy s) ls) old r new → SendsOn ofClosingLengths s r old new
   pub stamping : (start tick : ℕ) (r : Moment) → momentPaper r ≡ momentPaper (stampOf start tick)
       → carries ofStamp (momentPaper r .number) (momentPaper r .accepted) ≡ true

@@ -8,7 +8,7 @@ use Rattle.checks.specs.Check.{headerCheck, payloadCheck}
 use Rattle.clock.specs.Clock.{stampOf, dueAt, late}
 use Rattle.frame.specs.declared.Written.{Written}
 use Rattle.frame.specs.Paper.{ReadPaper}
-use Rattle.sender.specs.declared.Sending.{Sending}
+use Rattle.sender.specs.declared.Dispatch.{Dispatch}
 use Rattle.sender.specs.declared.Turning.{Turning}
 use Rattle.reception.specs.declared.Taken.{Taken}
 use Rattle.reception.specs.Hearing.{Kept, Outcome}
@@ -34,7 +34,7 @@ pub record OneExported : Type 0 where
   -- `quimdoral_sender_fresh`; `_open` and `_new_period`; `_data`, `_close` and `_close_with_lengths`
   pub sender-fresh : (old : List ℕ) → Fixes (λ (o : ℕ × Lent). MakesFresh old (o .0) (o .1))
   pub sender-turn : (old : List ℕ) (t : Turning) → Fixes (λ (o : ℕ × Lent). TurnsState old t (o .0) (o .1))
-  pub sender-frame : (old : List ℕ) (t : Sending) (frame out : List ℕ) → Fixes (λ (o : ℕ × Lent × Lent). SendsState old t frame out (o .0) (o .1) (o .2))
+  pub sender-frame : (old : List ℕ) (t : Dispatch) (frame out : List ℕ) → Fixes (λ (o : ℕ × Lent × Lent). SendsState old t frame out (o .0) (o .1) (o .2))
   -- `quimdoral_fresh` and `quimdoral_hear`; `quimdoral_hear_all`
   pub record-call : (old : List ℕ) (k : Kept) (t : Outcome)
       → Fixes (λ (o : ℕ × Lent × Lent × Lent × Lent). Keeps old k t (o .0) (o .1) (o .2) (o .3) (o .4))

@@ -20,7 +20,7 @@ use Rattle.frame.specs.Writing.{writeData, writeClosing, writeLengths, dataFram
 use Rattle.reader.specs.Lists.{Lists}
 use Rattle.writer.specs.Promise.{Wrote}
 use Rattle.sender.specs.declared.Sender.{Sender}
-use Rattle.sender.specs.declared.Sending.{Sending}
+use Rattle.sender.specs.declared.Dispatch.{Dispatch}
 use Rattle.sender.specs.State.{freshSender, closingBy}
 use Rattle.sender.specs.Calls.{openCall, renewCall, dataCall, closeCall, closeWithCall, Turns, Sends}
 use Rattle.reception.specs.declared.Joining.{Joining}
@@ -60,11 +60,11 @@ pub record OneOutcome : Type 0 where
   pub opened : (s : Sender) (stamp : ℕ) → Fixes (Turns (openCall s stamp))
   pub renewed : (s : Sender) → Fixes (Turns (renewCall s))
   pub sent : (s : Sender) (p old : List ℕ)
-      → Fixes (λ (o : Sending × Lent). Sends (dataCall s (length p) (length old)) (dataFrame (s .stamp) (s .number .0) (s .elapsed .0) p) old (o .0) (o .1))
+      → Fixes (λ (o : Dispatch × Lent). Sends (dataCall s (length p) (length old)) (dataFrame (s .stamp) (s .number .0) (s .elapsed .0) p) old (o .0) (o .1))
   pub closed : (s : Sender) (old : List ℕ)
-      → Fixes (λ (o : Sending × Lent). Sends (closeCall s (length old)) (closingFrame (closingBy s)) old (o .0) (o .1))
+      → Fixes (λ (o : Dispatch × Lent). Sends (closeCall s (length old)) (closingFrame (closingBy s)) old (o .0) (o .1))
   pub closed-with-lengths : (s : Sender) (ls old : List ℕ)
-      → Fixes (λ (o : Sending × Lent). Sends (closeWithCall s ls (length old)) (lengthsFrame (closingBy s) ls) old (o .0) (o .1))
+      → Fixes (λ (o : Dispatch × Lent). Sends (closeWithCall s ls (length old)) (lengthsFrame (closingBy s) ls) old (o .0) (o .1))
   -- a fresh record, and a frame heard
   pub fresh : (bearer period stamp : ℕ) (marks elapsed sizes : List ℕ)
       → Fixes (λ (o : Taking × Lent × Lent × Lent). Takes (freshRecord bearer period stamp marks elapsed sizes) (o .0) (o .1) (o .2) (o .3))

@@ -1,5 +1,5 @@
 -- How the answers of a sender's calls meet the promises. Assumes nothing.
-use Prim.Native.Nat.{ℕ, zero, suc, _+_, _≤_, _<_}
+use Prim.Native.Nat.{ℕ, _+_, _≤_, _<_}
 use mathlib.Core.Path.{_≡_, refl, sym, ap, _∙_}
 use mathlib.Core.Bool.{false, not}
 use mathlib.Core.List.{List}
@@ -20,12 +20,13 @@ use Rattle.frame.specs.Paper.{CountPaper, writtenPaper}
 use Rattle.frame.specs.Writing.{after}
 use Rattle.frame.proofs.OnePaper.{written-known}
 use Rattle.sender.specs.declared.Sender.{Sender}
-use Rattle.sender.specs.declared.Sending.{Sending}
+use Rattle.sender.specs.declared.Dispatch.{Dispatch}
 use Rattle.sender.specs.declared.Turned.{Turned}
 use Rattle.sender.specs.declared.Turned.the-variants.{Done as TurnDone, Refused as NotTurned}
 use Rattle.sender.specs.declared.Turning.{Turning}
 use Rattle.sender.specs.State.{damaged, isOpen, freshSender}
 use Rattle.sender.specs.Calls.{dataCall, closeCall, closeWithCall, turnedPaper, Turns, Sends}
+use Rattle.sender.proofs.OnePaper.{turned-known}
 use Rattle.numbers.specs.Answers.{inOne}
 use Rattle.numbers_state.specs.States.{stateOf, withState}
 use Rattle.numbers_sender.specs.Senders.{turnedState, sentState, MakesFresh, TurnsState, SendsState}
@@ -42,19 +43,6 @@ module _ (a : Turned) where
   unfolding turnedPaper
   turn-done old new s h e l = (rw e refl, l ∙ rw (e, le-ltb (length old) 6 h) refl)
 
--- a turn is known from its paper
-turnedFrom : ℕ → CountPaper → Turned
-turnedFrom zero p = NotTurned (record { number = p .number })
-turnedFrom (suc k) p = TurnDone
-
-turned-from : (a : Turned) → turnedFrom (turnedPaper a .accepted) (turnedPaper a) ≡ a
-unfolding turnedFrom turnedPaper
-turned-from TurnDone = refl
-turned-from (NotTurned r) = refl
-
-turned-known : (a b : Turned) → turnedPaper a ≡ turnedPaper b → a ≡ b
-turned-known a b e = sym (turned-from a) ∙ ap (λ (p : CountPaper). turnedFrom (p .accepted) p) e ∙ turned-from b
-
 -- the state after a frame was written, or refused
 pub sent-refused : (w : Written) (x : Refusal) (old : List ℕ) (s : Sender) → w ≡ Refused x → old ≡ sentState w old s
 sent-refused w x old s e = rw e refl
@@ -63,7 +51,7 @@ pub sent-done : (w : Written) (n : ℕ) (old new : List ℕ) (s : Sender) → 6 
 sent-done w n old new s h e l = l ∙ rw (e, le-ltb (length old) 6 h) refl
 
 -- no frame that the sender writes has more octets than can be answered
-abbrev pub FewSent : Sending → Type 0
+abbrev pub FewSent : Dispatch → Type 0
 FewSent t = Few (t .answer)
 
 pub few-sent : (s : Sender) (l room : ℕ) → FewSent (dataCall s l room)
@@ -125,12 +113,12 @@ turned old new t r x h p e l =
     let a = turned-known (r .answer) (t .answer) (p .says) in
     record { says = e ∙ rw (q, a) refl; leaves-state = l ∙ rw (q, a, p .next) refl }
 
-pub short-send : (old : List ℕ) (t : Sending) (frame out : List ℕ) → length old < 6 → SendsState old t frame out senderDamaged old out
+pub short-send : (old : List ℕ) (t : Dispatch) (frame out : List ℕ) → length old < 6 → SendsState old t frame out senderDamaged old out
 short-send old t frame out h =
     let q = lt-ltb (length old) 6 h in
     record { says = rw q refl; leaves-state = rw q refl; leaves-out = rw q refl }
 
-pub sent : (old new : List ℕ) (t r : Sending) (frame out out′ : List ℕ) (x : ℕ) → 6 ≤ length old → Sends t frame out r out′ → x ≡ inOne (writtenPaper (r .answer))
+pub sent : (old new : List ℕ) (t r : Dispatch) (frame out out′ : List ℕ) (x : ℕ) → 6 ≤ length old → Sends t frame out r out′ → x ≡ inOne (writtenPaper (r .answer))
     → new ≡ sentState (r .answer) old (r .sender) → SendsState old t frame out x new out′
 sent old new t r frame out out′ x h p e l =
     let q = le-ltb (length old) 6 h in

@@ -12,7 +12,7 @@ use Rattle.frame.specs.declared.Written.the-variants.{Done, Refused}
 use Rattle.frame.specs.Paper.{writtenPaper}
 use Rattle.frame.specs.Writing.{after}
 use Rattle.sender.specs.declared.Sender.{Sender}
-use Rattle.sender.specs.declared.Sending.{Sending}
+use Rattle.sender.specs.declared.Dispatch.{Dispatch}
 use Rattle.sender.specs.declared.Turned.{Turned}
 use Rattle.sender.specs.declared.Turned.the-variants.{Done as TurnDone, Refused as NotTurned}
 use Rattle.sender.specs.declared.Turning.{Turning}
@@ -43,7 +43,7 @@ pub record TurnsState (old : List ℕ) (t : Turning) (r : ℕ) (new : List ℕ) 
   pub leaves-state : new ≡ (old when ltb (length old) 6 otherwise turnedState (t .answer) old (t .sender))
 
 -- and of a call that writes a frame into memory that held out
-pub record SendsState (old : List ℕ) (t : Sending) (frame out : List ℕ) (r : ℕ) (new out′ : List ℕ) : Type 0 where
+pub record SendsState (old : List ℕ) (t : Dispatch) (frame out : List ℕ) (r : ℕ) (new out′ : List ℕ) : Type 0 where
   pub says : r ≡ (senderDamaged when ltb (length old) 6 otherwise inOne (writtenPaper (t .answer)))
   pub leaves-state : new ≡ (old when ltb (length old) 6 otherwise sentState (t .answer) old (t .sender))
   pub leaves-out : out′ ≡ (out when ltb (length old) 6 otherwise after (t .answer) frame out)

@@ -3,7 +3,7 @@
 use frame::Written;
 use numbers_state::put_state;
 use numbers_state::sender_of;
-use sender::Sending;
+use sender::Dispatch;
 use sender::Turned;
 use sender::Turning;
 use sender::closed;
@@ -43,7 +43,7 @@ fn keep_turned(state: &mut [u64], t: Turning) -> u8
 }
 
 // Keeps the state after a frame was written, and answers in one number.
-fn keep_sent(state: &mut [u64], t: Sending) -> u64
+fn keep_sent(state: &mut [u64], t: Dispatch) -> u64
     requires { ⌜ (6 ≤ length (now state)) × (writtenPaper (t .answer) .count ≤ mostCounted) ⌝ }
     ensures { λ r. ⌜ r ≡ inOne (writtenPaper (t .answer)) ⌝ }
     ensures { λ _. ⌜ now (state .exit) ≡ sentState (t .answer) (now (state .entry)) (t .sender) ⌝ }

@@ -17,7 +17,7 @@ use Rattle.frame.specs.Writing.{dataFrame}
 use Rattle.sender.specs.declared.Phase.{Phase}
 use Rattle.sender.specs.declared.Phase.the-variants.{Fresh, Open, Closed}
 use Rattle.sender.specs.declared.Sender.{Sender}
-use Rattle.sender.specs.declared.Sending.{Sending}
+use Rattle.sender.specs.declared.Dispatch.{Dispatch}
 use Rattle.sender.specs.State.{damaged, isOpen, restWrong, closingBy}
 use Rattle.frame.specs.Counts.{someOf}
 use Rattle.sender.specs.Calls.{advanced, begins, dataCall}
@@ -58,7 +58,7 @@ unfolding countOf
 rest-ready s p ps h r =
     let n = r .number in
     let m = r .packets in
-    let e = ap (λ (x : Sending). x .sender) (data-accepted s p (r .whole) (r .turn) h (omega arith) (omega arith)) in
+    let e = ap (λ (x : Dispatch). x .sender) (data-accepted s p (r .whole) (r .turn) h (omega arith) (omega arith)) in
     (e, record { whole = rw e at (data-undamaged s (r .whole) (length p) (11 + length p)); turn = refl; number = omega arith; packets = omega arith })
 
 pub frames-are : (s : Sender) {ps : List (List ℕ)} → Short ps → Ready s ps → framesBy s ps ≡ dataFrames (s .stamp) (s .number .0) (s .elapsed .0) ps

@@ -1,5 +1,6 @@
 pub mod Answering
 pub mod FramesOfSequence
+pub mod OnePaper
 pub mod SentIsRead
 pub mod StaysUndamaged
 pub mod Undamaged

@@ -19,14 +19,14 @@ use Rattle.frame.specs.Reading.{readFrame}
 use Rattle.frame.specs.Writing.{dataFrame, closingFrame, lengthsFrame, after, writeLengths}
 use Rattle.frame.proofs.WhatWentIn.{data-went-in, closing-went-in, lengths-went-in}
 use Rattle.sender.specs.declared.Sender.{Sender}
-use Rattle.sender.specs.declared.Sending.{Sending}
+use Rattle.sender.specs.declared.Dispatch.{Dispatch}
 use Rattle.sender.specs.State.{damaged, isOpen, closingBy}
 use Rattle.sender.specs.Calls.{keeps, advanced, closedSender, dataCall, closeCall, closeWithCall}
 use Rattle.sender.proofs.Undamaged.{undamaged}
 use Rattle.sender.proofs.Written.{data-written, closing-written, lengths-closed, closedBy}
 
 -- an accepted call passed the first test
-pub passed : (s : Sender) (n k : ℕ) (t : Bool) (b : Sending) → (keeps s n when t otherwise b) .answer ≡ Done k → (t ≡ false) × (b .answer ≡ Done k)
+pub passed : (s : Sender) (n k : ℕ) (t : Bool) (b : Dispatch) → (keeps s n when t otherwise b) .answer ≡ Done k → (t ≡ false) × (b .answer ≡ Done k)
 passed s n k true b e =
     let z : _≡_ {A = ℕ} 0 1 = cc in
     absurd (omega arith)
@@ -100,5 +100,5 @@ module _ (s : Sender) (room k : ℕ) (old : List ℕ) where
   lengths-sent ls e =
       let g = lengths-go ls e in
       let f = lengths-closed s (undamaged s (g .0)) (g .0) (g .1) ls room in
-      let w : writeLengths (closingBy s) ls room ≡ Done k = sym (answer-of (writeLengths (closingBy s) ls room)) ∙ ap (λ (x : Sending). x .answer) (sym f) ∙ e in
+      let w : writeLengths (closingBy s) ls room ≡ Done k = sym (answer-of (writeLengths (closingBy s) ls room)) ∙ ap (λ (x : Dispatch). x .answer) (sym f) ∙ e in
       lengths-went-in (closingBy s) ls room k old w

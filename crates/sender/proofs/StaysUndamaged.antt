@@ -14,7 +14,7 @@ use Rattle.frame.specs.Counts.{closingWrong, listWrong}
 use Rattle.frame.specs.Layout.{filled}
 use Rattle.frame.proofs.Said.{Possible}
 use Rattle.sender.specs.declared.Sender.{Sender}
-use Rattle.sender.specs.declared.Sending.{Sending}
+use Rattle.sender.specs.declared.Dispatch.{Dispatch}
 use Rattle.sender.specs.declared.Turning.{Turning}
 use Rattle.sender.specs.State.{damaged, isOpen, notLater, restWrong, freshSender, closingBy}
 use Rattle.frame.specs.Counts.{someOf}
@@ -66,7 +66,7 @@ module _ (s : Sender) (w : Whole s) where
   abbrev After : Turning → Type 0
   After t = Whole (t .sender)
 
-  abbrev Sent : Sending → Type 0
+  abbrev Sent : Dispatch → Type 0
   Sent t = Whole (t .sender)
 
   pub open-undamaged : (stamp : ℕ) → Whole (openCall s stamp .sender)

@@ -17,7 +17,7 @@ use Rattle.frame.specs.Counts.{dataWrong, givenWrong, tooWide, listWrong}
 use Rattle.frame.specs.Layout.{filled}
 use Rattle.frame.specs.Writing.{refuseWrite, writeData, writeClosing, writeLengths}
 use Rattle.sender.specs.declared.Sender.{Sender}
-use Rattle.sender.specs.declared.Sending.{Sending}
+use Rattle.sender.specs.declared.Dispatch.{Dispatch}
 use Rattle.sender.specs.State.{damaged, isOpen, closingBy}
 use Rattle.sender.specs.Calls.{keeps, closedSender, closeWithCall}
 use Rattle.sender.proofs.Undamaged.{Undamaged, few-octets}
@@ -53,7 +53,7 @@ module _ (s : Sender) (u : Undamaged s) where
   lengths-written ls room = simp (le-ltb _ _ (u .stamp), given-right)
 
 -- the sender after a closing that was written, or not
-abbrev pub closedBy : Sender → Written → Sending
+abbrev pub closedBy : Sender → Written → Dispatch
 closedBy s (Done n) = record { answer = Done n; sender = closedSender s }
 closedBy s (Refused r) = record { answer = Refused r; sender = s }
 

@@ -16,7 +16,7 @@ use Rattle.frame.specs.Paper.{writtenPaper, CountPaper}
 use Rattle.frame.specs.Writing.{after}
 use Rattle.sender.specs.declared.Phase.the-variants.{Open, Closed}
 use Rattle.sender.specs.declared.Sender.{Sender}
-use Rattle.sender.specs.declared.Sending.{Sending}
+use Rattle.sender.specs.declared.Dispatch.{Dispatch}
 use Rattle.sender.specs.declared.Turned.{Turned}
 use Rattle.sender.specs.declared.Turned.the-variants.{Done as TurnDone, Refused as NotTurned}
 use Rattle.sender.specs.declared.Turning.{Turning}
@@ -32,7 +32,7 @@ abbrev pub stays : Sender → ℕ → Turning
 stays s n = record { answer = NotTurned (refusing n); sender = s }
 
 -- a refused frame
-abbrev pub keeps : Sender → ℕ → Sending
+abbrev pub keeps : Sender → ℕ → Dispatch
 keeps s n = record { answer = Refused (refusing n); sender = s }
 
 -- within a sequence of a stamp; the counts are zero already, and the totals stay
@@ -72,7 +72,7 @@ advanced s l =
     }
 
 -- "Data: 21, 15, 20, 17, 18, 19, 12", for a payload of l octets and a lent memory of room octets
-unfoldable pub dataCall : Sender → ℕ → ℕ → Sending
+unfoldable pub dataCall : Sender → ℕ → ℕ → Dispatch
 dataCall s l room =
     keeps s senderDamaged when damaged s otherwise
     keeps s outOfTurn when not (isOpen (s .phase)) otherwise
@@ -89,7 +89,7 @@ closedSender s =
     record { phase = Closed; stamp = s .stamp; number = record { 0 = 0 }; elapsed = record { 0 = 0 }; packets = s .packets; octets = s .octets }
 
 -- "Closing: 21, 15, 22 for Type 3, 12", of Type 0
-unfoldable pub closeCall : Sender → ℕ → Sending
+unfoldable pub closeCall : Sender → ℕ → Dispatch
 closeCall s room =
     keeps s senderDamaged when damaged s otherwise
     keeps s outOfTurn when not (isOpen (s .phase)) otherwise
@@ -97,7 +97,7 @@ closeCall s room =
     record { answer = Done 18; sender = closedSender s }
 
 -- the same of Type 3, with 22 before 12
-unfoldable pub closeWithCall : Sender → List ℕ → ℕ → Sending
+unfoldable pub closeWithCall : Sender → List ℕ → ℕ → Dispatch
 closeWithCall s ls room =
     keeps s senderDamaged when damaged s otherwise
     keeps s outOfTurn when not (isOpen (s .phase)) otherwise
@@ -111,7 +111,7 @@ pub record Turns (t r : Turning) : Type 0 where
   pub next : r .sender ≡ t .sender
 
 -- the promise of a call that writes a frame into a memory that held old
-pub record Sends (t : Sending) (frame old : List ℕ) (r : Sending) (new : List ℕ) : Type 0 where
+pub record Sends (t : Dispatch) (frame old : List ℕ) (r : Dispatch) (new : List ℕ) : Type 0 where
   pub says : writtenPaper (r .answer) ≡ writtenPaper (t .answer)
   pub next : r .sender ≡ t .sender
   pub leaves : new ≡ after (t .answer) frame old

@@ -64,7 +64,7 @@ pub struct Turning {
 }
 
 // The answer of a call that writes a frame, and the state after it.
-pub struct Sending {
+pub struct Dispatch {
     pub answer: Written,
     pub sender: Sender,
 }
@@ -105,7 +105,7 @@ pub fn renewed(s: Sender) -> Turning
 }
 
 // Sends a data PDU: the counts of the packets before it are written, and then advanced.
-pub fn sent(s: Sender, payload: &[u8], out: &mut [u8]) -> Sending
+pub fn sent(s: Sender, payload: &[u8], out: &mut [u8]) -> Dispatch
     ensures { λ r. ⌜ Sends
         (dataCall s (length (now (payload .entry))) (length (now (out .entry))))
         (dataFrame (s .stamp) (s .number .0) (s .elapsed .0) (now (payload .entry)))
@@ -137,11 +137,11 @@ pub fn sent(s: Sender, payload: &[u8], out: &mut [u8]) -> Sending
     let number = s.number;
     let elapsed = s.elapsed;
     let answer = writer::write_data(s.stamp, number, elapsed, payload, out);
-    Sending { answer, sender }
+    Dispatch { answer, sender }
 }
 
 // Closes the sequence with a Type 0 frame. A sequence without data is closed too.
-pub fn closed(s: Sender, out: &mut [u8]) -> Sending
+pub fn closed(s: Sender, out: &mut [u8]) -> Dispatch
     ensures { λ r. ⌜ Sends (closeCall s (length (now (out .entry)))) (closingFrame (closingBy s)) (now (out .entry)) r (now (out .exit)) ⌝ }
 {
     if is_damaged(s) {
@@ -155,11 +155,11 @@ pub fn closed(s: Sender, out: &mut [u8]) -> Sending
     }
     let answer = writer::write_closing(closing_of(s), out);
     let sender = at_rest(s);
-    Sending { answer, sender }
+    Dispatch { answer, sender }
 }
 
 // Closes the sequence with a Type 3 frame. The writer judges the lengths, and then the room.
-pub fn closed_with_lengths(s: Sender, lengths: &[u16], out: &mut [u8]) -> Sending
+pub fn closed_with_lengths(s: Sender, lengths: &[u16], out: &mut [u8]) -> Dispatch
     ensures { λ r. ⌜ Sends
         (closeWithCall s (now (lengths .entry)) (length (now (out .entry))))
         (lengthsFrame (closingBy s) (now (lengths .entry)))
@@ -175,7 +175,7 @@ pub fn closed_with_lengths(s: Sender, lengths: &[u16], out: &mut [u8]) -> Sendin
     match written {
         Written::Done(n) => {
             let sender = at_rest(s);
-            Sending {
+            Dispatch {
                 answer: Written::Done(n),
                 sender,
             }

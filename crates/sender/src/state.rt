@@ -1,7 +1,7 @@
 // What the calls ask of the state, and the states that they make.
+use crate::Dispatch;
 use crate::Phase;
 use crate::Sender;
-use crate::Sending;
 use crate::Turned;
 use crate::Turning;
 use frame::ClosingPdu;
@@ -148,10 +148,10 @@ pub fn begun(s: Sender, stamp: u32) -> Turning
     }
 }
 
-pub fn send_refused(s: Sender, number: u8) -> Sending
+pub fn send_refused(s: Sender, number: u8) -> Dispatch
     ensures { λ r. ⌜ r ≡ keeps s number ⌝ }
 {
-    Sending {
+    Dispatch {
         answer: Written::Refused(Refusal { number }),
         sender: s,
     }
@@ -176,9 +176,8 @@ pub fn with_packet(s: Sender, l: u64) -> Sender
 pub fn at_rest(s: Sender) -> Sender
     ensures { λ r. ⌜ r ≡ closedSender s ⌝ }
 {
-    let none = fresh();
-    let number = none.number;
-    let elapsed = none.elapsed;
+    let number = Packets(0);
+    let elapsed = Octets(0);
     let all_packets = s.packets;
     let all_octets = s.octets;
     Sender {

@@ -1,8 +1,8 @@
 // Each call of the sender, with its answer printed.
 use frame::Written;
 use libc::STDOUT_FILENO;
+use sender::Dispatch;
 use sender::Sender;
-use sender::Sending;
 use sender::Turned;
 use sender::Turning;
 
@@ -40,7 +40,7 @@ fn turn(name: &[u8], t: Turning) -> Sender {
     t.sender
 }
 
-fn frame(name: &[u8], t: Sending, out: &[u8]) -> Sender {
+fn frame(name: &[u8], t: Dispatch, out: &[u8]) -> Sender {
     say(name);
     say(b": ");
     let answer = t.answer;

@@ -6,16 +6,16 @@ use Rattle.bearer.proofs.Names.{_≡_, refl, ℕ, [], _∷_, List, URA,
 use Rattle.bearer.proofs.Names.{frame, done, ⋆, use2, feqL, look, look-raw, init, store-raw, forget, stop, hop, fld, from, load, of-opd, and-then, no-more, assigns, land, returns, enter, alloc1, alloc0, params1, pass1, pass0, free1, free0, addr, whole, sub, look-in, agg, Body, FmC, fmOf, owns, Is, shows, Are, Ises, mem, u8, u16, RefT, MutRef, ptr-vals, mut-tells}
 use Rattle.bearer.proofs.Names.{plain, shrSliceOf, typesAt, owned, peeks, heard, nothing, Args, Vals, onEntry, tripleOf, Contract, Triple, calls-at, entered, cited, says, Stays, stay-ref, walkOf, goes-ref, ends-at, stay-dropped, gave-slice, goes-dropped, goes-gave-slice, yes, length, MutSlice, ShrSlice, finally, slice-vals, mut-slice-tells, shr-slice-tells}
 use Rattle.bearer.proofs.InPlace.{takes, puts, answers, meets}
-use Rattle.bearer.proofs.Values.{mach, written, slice, sending-is, sending-answer, sending-sender, sender-typed, written-typed, sending-typed, sender-makes, written-makes}
+use Rattle.bearer.proofs.Values.{mach, written, slice, dispatch-is, dispatch-answer, dispatch-sender, sender-typed, written-typed, dispatch-typed, sender-makes, written-makes}
 use Rattle.frame.specs.Writing.{lengthsFrame}
 use Rattle.sender.specs.State.{closingBy}
 use Rattle.sender.specs.Calls.{closeWithCall, Sends}
 use Rattle.sender.specs.declared.Sender.{Sender}
-use Rattle.sender.specs.declared.Sending.{Sending}
+use Rattle.sender.specs.declared.Dispatch.{Dispatch}
 use Rattle.sender.proofs.Sender as S
 use Rattle.sender.proofs.Sender.Laws as S′
-use Rattle.sender.proofs.Sending as R
-use Rattle.sender.proofs.Sending.Laws as R′
+use Rattle.sender.proofs.Dispatch as R
+use Rattle.sender.proofs.Dispatch.Laws as R′
 use Rattle.frame.proofs.Written as N
 use Rattle.sender.proofs.closed_with_lengths as callee
 use Rattle.sender.proofs.closed_with_lengths.Symbol as callee-def
@@ -66,19 +66,19 @@ module _ {M : Type 1} (𝓤 : URA M) (H : Heap 𝓤) (A : Atoms 𝓤) (W : Given
   Others = ‵ (owns (ShrSlice (named 1) (κs .1 .0) u16 ∷ MutSlice (named 2) (κs .1 .1 .0) u8 ∷ []) (a .1) (at .1))
 
   -- what `closed_with_lengths` promises of its result and of the last octets
-  abbrev Says : Sending → List ℕ → Type 0
+  abbrev Says : Dispatch → List ℕ → Type 0
   Says r zs = Sends (closeWithCall h (lengths .now) (length (out .now))) (lengthsFrame (closingBy h) (lengths .now)) (out .now) r zs
 
   abbrev Post : Val → SProp 𝓤
   Post = walkOf 𝓤 H A this.ended stayed (this.clauses 𝓤 H A at-mem run) .post ((κs, qs, tt, a, at), tt)
 
   -- what is held once the locals are freed
-  abbrev Held : Sending → List ℕ → List (Item 𝓤)
+  abbrev Held : Dispatch → List ℕ → List (Item 𝓤)
   Held r zs =
       ‵ (fobs (a .0 .name) (S.the-row .coded .code (r .sender))) ∷ ‵ (fbor (κs .0) (Body (mem S.the-row) b o (a .0 .name))) ∷ ‵ (flft (κs .0) (qs .0)) ∷ Tokens ∷ ‵ (finally u8 (out .name) zs) ∷ []
 
   -- the contract, from what `closed_with_lengths` promises
-  exits : (r : Sending) (zs : List ℕ) → Says r zs → length zs ≡ length (out .now) → Is N.the-row (r .answer) (written (r .answer) ∷ [])
+  exits : (r : Dispatch) (zs : List ℕ) → Says r zs → length zs ≡ length (out .now) → Is N.the-row (r .answer) (written (r .answer) ∷ [])
       → ent 𝓤 (⋆ 𝓤 H A (Held r zs)) (Post (written (r .answer)))
   exits r zs e l is =
       qed W (Held r zs) ∵
@@ -117,17 +117,17 @@ module _ {M : Type 1} (𝓤 : URA M) (H : Heap 𝓤) (A : Atoms 𝓤) (W : Given
         -- at 0 the last octets, 1 the tokens, 2 what the result owns, 3 the sender's cell
         move ! (2 ∷ []) $ peeks ! R.the-row (Is R.the-row) (shows 𝓤 H A R.the-row) r (v ∷ []) (λ is. drop ! $ move ! (2 ∷ 3 ∷ 4 ∷ 5 ∷ []) $
         -- at 0 the sender's cell, 1 the open borrow, 2 obs, 3 auth, 4 the last octets, 5 the tokens, 6 _7, 8 _6, 10 _5, 12 _4, 14 _3, 16 _2, 18 _1, 20 _0
-        land ! (from ! (stop !)) (init ! 12 refl (sending-typed W r is .0)) $ rewrite ! 12 (λ (u : Val). ‵ (fat fullShare R′.mir l4 0 u)) (sending-is r v is) refl $
+        land ! (from ! (stop !)) (init ! 12 refl (dispatch-typed W r is .0)) $ rewrite ! 12 (λ (u : Val). ‵ (fat fullShare R′.mir l4 0 u)) (dispatch-is r v is) refl $
         -- *s = _4.sender
-        assigns ! (of-opd ! (load ! (from ! (fld ! refl (stop !))) (look-in ! 12 (sub ! 1 refl (whole !))))) (from ! (hop ! (look ! 18 refl) (stop !))) (store-raw ! 0 refl (sender-typed W (r .sender) (sending-sender r v is) .0)) $
+        assigns ! (of-opd ! (load ! (from ! (fld ! refl (stop !))) (look-in ! 12 (sub ! 1 refl (whole !))))) (from ! (hop ! (look ! 18 refl) (stop !))) (store-raw ! 0 refl (sender-typed W (r .sender) (dispatch-sender r v is) .0)) $
         -- _0 = _4.answer
-        assigns ! (of-opd ! (load ! (from ! (fld ! refl (stop !))) (look-in ! 12 (sub ! 0 refl (whole !))))) (from ! (stop !)) (init ! 20 refl (written-typed W (r .answer) (sending-answer r v is) .0)) $
+        assigns ! (of-opd ! (load ! (from ! (fld ! refl (stop !))) (look-in ! 12 (sub ! 0 refl (whole !))))) (from ! (stop !)) (init ! 20 refl (written-typed W (r .answer) (dispatch-answer r v is) .0)) $
         -- the borrow is closed
-        puts ! tt S.the-type S′.the-laws S′.the-plain (r .sender) (sending-sender r v is) b o $
+        puts ! tt S.the-type S′.the-laws S′.the-plain (r .sender) (dispatch-sender r v is) b o $
         -- at 0 obs, 1 the borrow, 2 its token, 3 the last octets, 4 the tokens, 5 _7, 7 _6, 9 _5, 11 _4, 13 _3, 15 _2, 17 _1, 19 _0
         returns ! (look ! 19 refl) $ forget ! 5 refl $ forget ! 7 refl $ forget ! 9 refl $ forget ! 11 refl $ forget ! 13 refl $ forget ! 15 refl $ forget ! 17 refl $ forget ! 19 refl $
         move ! (19 ∷ 20 ∷ []) $ free1 ! $ move ! (17 ∷ 18 ∷ []) $ free1 ! $ move ! (15 ∷ 16 ∷ []) $ free1 ! $ move ! (13 ∷ 14 ∷ []) $ free1 ! $ move ! (11 ∷ 12 ∷ []) $ free1 ! $ move ! (9 ∷ 10 ∷ []) $ free1 ! $ move ! (7 ∷ 8 ∷ []) $ free1 ! $ move ! (5 ∷ 6 ∷ []) $ free1 ! $ free0 ! $
-        keep ! (0 ∷ 1 ∷ 2 ∷ 4 ∷ 3 ∷ []) $ by ! (exits r (ws .1 .1 .0) e l (sending-answer r v is))))))))))))))))
+        keep ! (0 ∷ 1 ∷ 2 ∷ 4 ∷ 3 ∷ []) $ by ! (exits r (ws .1 .1 .0) e l (dispatch-answer r v is))))))))))))))))
 
 pub close-with-lengths-spec : {M : Type 1} → stated.statement M
 unfolding code.routine tablesOf

@@ -7,7 +7,7 @@ use lib.ListN.{length}
 use Rattle.frame.specs.declared.Written.{Written}
 use Rattle.frame.specs.Paper.{writtenPaper}
 use Rattle.frame.proofs.OnePaper.{written-known}
-use Rattle.sender.specs.declared.Sending.{Sending}
+use Rattle.sender.specs.declared.Dispatch.{Dispatch}
 use Rattle.frame.specs.Writing.{after, lengthsFrame, writeLengths}
 use Rattle.sender.specs.State.{damaged, isOpen, closingBy}
 use Rattle.sender.specs.Calls.{closeWithCall}
@@ -92,7 +92,7 @@ returns-4 : tie.Need-returns-4
 returns-4 c =
     let q = outcome (c .before .before .before .before) _ (c .before .before .written2 .given .1) in
     let r = c .send-refused3 .ensures in
-    written (q .0) (ap (λ (x : Sending). writtenPaper (x .answer)) r) (ap (λ (x : Sending). x .sender) r) (q .1)
+    written (q .0) (ap (λ (x : Dispatch). writtenPaper (x .answer)) r) (ap (λ (x : Dispatch). x .sender) r) (q .1)
 
 pub closed-with-lengths-spec : {M : Type 1} → statement M
 closed-with-lengths-spec =
