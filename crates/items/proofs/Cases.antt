@@ -9,9 +9,10 @@ use lib.ListN.{length}
 use native.Mathlib.Omega.{arith}
 use Rattle.fields.proofs.Choosing.{tested}
 use Rattle.units.specs.Limits.{lastStamp}
+use Rattle.fields.specs.Numbers.{le}
 use Rattle.items.specs.declared.Item.{Item}
 use Rattle.items.specs.declared.Item.the-variants.{Begins, Frame, Wrong, Cut}
-use Rattle.items.specs.Items.{le, bodyLength, kind, keyOf, mostBody, beginning, framed, itemOf}
+use Rattle.items.specs.Items.{bodyLength, kind, keyOf, mostBody, beginning, framed, itemOf}
 
 -- what the octets s are when the item in front of them is so
 pub data Reads (s : List ℕ) : Item → Type 0 where

@@ -5,12 +5,13 @@ use mathlib.Core.Path.{_≡_, refl, sym, subst}
 use mathlib.Core.List.{List, _++_}
 use lib.ListN.{length, getD, length-append}
 use Rattle.units.specs.Limits.{lastStamp}
+use Rattle.fields.specs.Numbers.{le}
+use Rattle.fields.proofs.LittleEndian.{le-append, le-below}
 use Rattle.items.specs.declared.Key.{Key}
 use Rattle.items.specs.declared.Item.{Item}
 use Rattle.items.specs.declared.Item.the-variants.{Begins, Frame, Wrong, Cut}
-use Rattle.items.specs.Items.{le, bodyLength, kind, keyOf, mostBody, itemOf, sizeOf}
+use Rattle.items.specs.Items.{bodyLength, kind, keyOf, mostBody, longestItem, itemOf, sizeOf}
 use Rattle.items.proofs.Cases.{Reads, no-head, other-kind, other-length, key-cut, late-stamp, key, too-long, frame-cut, frame, reads, read-as}
-use Rattle.items.proofs.LittleEndian.{le-append, le-below}
 
 -- numbers of 32 bits, where the octets are octets
 abbrev Wide : List ℕ → Key → Type 0
@@ -21,7 +22,7 @@ abbrev Held : List ℕ → Item → Type 0
 Held s (Begins k) = (14 ≤ length s) × (k .stamp ≤ lastStamp) × Wide s k
 Held s (Frame n) = (n ≤ mostBody) × (4 + n ≤ length s)
 Held s Wrong = Unit {0}
-Held s Cut = length s < 8196
+Held s Cut = length s < longestItem
 
 held : {s : List ℕ} {i : Item} → Reads s i → Held s i
 unfolding keyOf
@@ -38,21 +39,21 @@ held (frame k b l) = (b, l)
 held-as : (s : List ℕ) (i : Item) → itemOf s ≡ i → Held s i
 held-as s i e = subst (λ (j : Item). Held s j) e (held (reads s))
 
--- a frame has at most 8,192 octets, and they are there
-pub frame-there : (s : List ℕ) (n : ℕ) → itemOf s ≡ Frame n → (n ≤ 8192) × (4 + n ≤ length s)
+-- a frame's body is not above the longest, and it is there
+pub frame-there : (s : List ℕ) (n : ℕ) → itemOf s ≡ Frame n → (n ≤ mostBody) × (4 + n ≤ length s)
 frame-there s n e = held-as s (Frame n) e
 
 -- a key is there, with a stamp of the period and numbers of 32 bits
 pub key-there : (s : List ℕ) (k : Key) → itemOf s ≡ Begins k
-    → (14 ≤ length s) × (k .stamp ≤ 59999) × (((i : ℕ) → getD s i 0 < 256) → (k .bearer < 2 ^ 32) × (k .period < 2 ^ 32))
+    → (14 ≤ length s) × (k .stamp ≤ lastStamp) × (((i : ℕ) → getD s i 0 < 256) → (k .bearer < 2 ^ 32) × (k .period < 2 ^ 32))
 key-there s k e = held-as s (Begins k) e
 
 -- a cut item is shorter than the longest one
-pub cut-short : (s : List ℕ) → itemOf s ≡ Cut → length s < 8196
+pub cut-short : (s : List ℕ) → itemOf s ≡ Cut → length s < longestItem
 cut-short s e = held-as s Cut e
 
--- so a buffer of 8,196 octets never holds one in front of unread input
-pub never-cut : (s : List ℕ) → 8196 ≤ length s → itemOf s ≡ Cut → ⊥
+-- so a buffer that has room for the longest item never holds a cut one in front of unread input
+pub never-cut : (s : List ℕ) → longestItem ≤ length s → itemOf s ≡ Cut → ⊥
 never-cut s h e = let l = cut-short s e in omega arith
 
 sized : (s : List ℕ) (i : Item) → Held s i → sizeOf i ≤ length s

@@ -3,9 +3,10 @@ use Prim.Native.Nat.{ℕ}
 use native.Mathlib.Omega.{arith}
 use mathlib.Core.Path.{_≡_, refl, sym, _∙_}
 use mathlib.Core.List.{List, [], _∷_, _++_}
+use Rattle.fields.specs.Numbers.{le}
 use Rattle.items.specs.declared.Item.{Item}
 use Rattle.items.specs.declared.Item.the-variants.{Begins, Frame, Cut}
-use Rattle.items.specs.Items.{le, keyOf, beginning, framed, itemOf}
+use Rattle.items.specs.Items.{keyOf, beginning, framed, itemOf}
 use Rattle.items.proofs.Enough.{enough}
 
 -- `0A 00 01 00 07 00 00 00 03 00 00 00 00 00`

@@ -1,4 +1,3 @@
 pub mod Cases
 pub mod Enough
 pub mod Example
-pub mod LittleEndian

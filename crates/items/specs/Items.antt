@@ -1,19 +1,15 @@
 -- What the account program reads (document 01, "The printed account"): the item in front of a row of octets. Assumes nothing.
-use Prim.Native.Nat.{ℕ, zero, suc, _+_, _*_, _^_}
+use Prim.Native.Nat.{ℕ, _+_}
 use mathlib.Core.Bool.{not}
 use mathlib.Core.List.{List}
 use lib.Dec.{ltb, eqb}
-use lib.ListN.{length, getD}
+use lib.ListN.{length}
 use Rattle.fields.specs.Choice.{_when_otherwise_}
+use Rattle.fields.specs.Numbers.{le}
 use Rattle.units.specs.Limits.{lastStamp}
 use Rattle.items.specs.declared.Key.{Key}
 use Rattle.items.specs.declared.Item.{Item}
 use Rattle.items.specs.declared.Item.the-variants.{Begins, Frame, Wrong, Cut}
-
--- "little-endian": the number in the w octets of s from i on, the least significant first
-unfoldable pub le : ℕ → List ℕ → ℕ → ℕ
-le zero s i = 0
-le (suc w) s i = le w s i + getD s (i + w) 0 * 256 ^ w
 
 -- "body length, kind (two octets each, little-endian), body"
 abbrev pub bodyLength : List ℕ → ℕ
@@ -30,6 +26,10 @@ keyOf s = record { bearer = le 4 s 4; period = le 4 s 8; stamp = le 2 s 12 }
 -- "body above 8,192"
 abbrev pub mostBody : ℕ
 mostBody = 8192
+
+-- the longest item: its length and its kind, and the longest body
+abbrev pub longestItem : ℕ
+longestItem = 4 + mostBody
 
 -- "Kind 1, ten octets: bearer, period, stamp (4, 4, 2, little-endian) begins a sequence"; "other kind or length", "A cut item" and
 -- "stamp above 59,999" do not

@@ -1,12 +1,17 @@
 // What the account program reads: the item in front of a row of octets, one that begins a sequence or a frame.
+use fields::little::four;
+use fields::little::two;
 use units::limits::LAST_STAMP;
 ghost use mathlib.Core.Path.{_≡_};
-ghost use Prim.Native.Nat.{_+_, _≤_, _<_};
-ghost use lib.ListN.{length, getD};
-ghost use Rattle.items.specs.Items.{le, bodyLength, kind, itemOf};
+ghost use Prim.Native.Nat.{_≤_};
+ghost use lib.ListN.{length};
+ghost use Rattle.items.specs.Items.{bodyLength, kind, itemOf};
 
 // The longest body of a frame.
 const MOST_BODY: u32 = 8192;
+
+// The longest item: its length and its kind, and the longest body.
+pub const LONGEST_ITEM: usize = 4 + MOST_BODY as usize;
 
 // Whose octets a sequence counts, and when it began.
 pub struct Key {
@@ -24,34 +29,6 @@ pub enum Item {
     Wrong,
     // Its octets are not all there.
     Cut,
-}
-
-// The octet at a place.
-fn octet(s: &[u8], at: usize) -> u32
-    requires { ⌜ at < length (now s) ⌝ }
-    ensures { λ r. ⌜ (r ≡ getD (now (s .entry)) at 0) × (r < 256) ⌝ }
-{
-    s[at] as u32
-}
-
-// The number in the two octets of s from at on, the least significant first.
-fn two(s: &[u8], at: usize) -> u32
-    requires { ⌜ at + 2 ≤ length (now s) ⌝ }
-    ensures { λ r. ⌜ (r ≡ le 2 (now (s .entry)) at) × (r < 65536) ⌝ }
-{
-    let low = octet(s, at);
-    let high = octet(s, at + 1);
-    low + high * 256
-}
-
-// The number in the four octets of s from at on, the least significant first.
-fn four(s: &[u8], at: usize) -> u32
-    requires { ⌜ at + 4 ≤ length (now s) ⌝ }
-    ensures { λ r. ⌜ r ≡ le 4 (now (s .entry)) at ⌝ }
-{
-    let low = two(s, at);
-    let high = two(s, at + 2);
-    low + high * 65536
 }
 
 // An item of kind 1 whose body has n octets.

@@ -1,9 +1,9 @@
--- `items::octet` meets its contract. Assumes nothing.
+-- `fields::little::octet` meets its contract. Assumes nothing.
 use borrow.Author.Needs.{needs}
 use native.Mathlib.Omega.{arith}
 use mathlib.Core.Path.{refl}
-use Rattle.items.proofs.octet.Statement.{statement}
-use Rattle.items.proofs.octet.Tie as tie
+use Rattle.fields.proofs.little.octet.Statement.{statement}
+use Rattle.fields.proofs.little.octet.Tie as tie
 
 shared-slice-read-result : tie.Need-shared-slice-read-result
 shared-slice-read-result c = search needs

@@ -5,7 +5,7 @@ use native.Mathlib.Omega.{arith}
 use mathlib.Core.Path.{_≡_, refl}
 use mathlib.Core.List.{List, _++_}
 use lib.ListN.{length, getD, List·getD-append}
-use Rattle.items.specs.Items.{le}
+use Rattle.fields.specs.Numbers.{le}
 
 -- two octets
 pub le-two : (s : List ℕ) (i : ℕ) → le 2 s i ≡ getD s i 0 + getD s (i + 1) 0 * 256

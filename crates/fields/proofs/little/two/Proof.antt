@@ -1,9 +1,9 @@
--- `items::two` meets its contract: the first octet, and 256 times the second. Assumes nothing.
+-- `fields::little::two` meets its contract: the first octet, and 256 times the second. Assumes nothing.
 use borrow.Author.Needs.{needs}
 use native.Mathlib.Omega.{arith}
-use Rattle.items.proofs.LittleEndian.{le-two}
-use Rattle.items.proofs.two.Statement.{statement}
-use Rattle.items.proofs.two.Tie as tie
+use Rattle.fields.proofs.LittleEndian.{le-two}
+use Rattle.fields.proofs.little.two.Statement.{statement}
+use Rattle.fields.proofs.little.two.Tie as tie
 
 octet-requires : tie.Need-octet-requires
 octet-requires c κs = search needs

@@ -1,9 +1,9 @@
--- `items::four` meets its contract: the first two octets, and 65,536 times the others. Assumes nothing.
+-- `fields::little::four` meets its contract: the first two octets, and 65,536 times the others. Assumes nothing.
 use borrow.Author.Needs.{needs}
 use native.Mathlib.Omega.{arith}
-use Rattle.items.proofs.LittleEndian.{le-four}
-use Rattle.items.proofs.four.Statement.{statement}
-use Rattle.items.proofs.four.Tie as tie
+use Rattle.fields.proofs.LittleEndian.{le-four}
+use Rattle.fields.proofs.little.four.Statement.{statement}
+use Rattle.fields.proofs.little.four.Tie as tie
 
 two-requires : tie.Need-two-requires
 two-requires c κs = search needs
