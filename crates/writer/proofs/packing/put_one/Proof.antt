@@ -1,7 +1,9 @@
 -- `writer::packing::put_one` meets its contract. Assumes nothing.
 use mathlib.Core.Path.{sym, ap, _∙_}
 use lib.ListN.{length-set}
-use lib.Bits.{and-mask}
+use native.Mathlib.Nat.{lt-of-le-of-lt, le-trans, mod-le, mul-le-mul-right}
+use lib.Bits.{and-le-r}
+use lib.Dec.{lit<}
 use denote.Ref.{now}
 use Rattle.fields.specs.Runs.{laid}
 use Rattle.fields.proofs.Laying.{stored-two}
@@ -18,7 +20,8 @@ slice-write-out : tie.Need-slice-write-out
 slice-write-out c = search needs
 
 cast-out-2 : tie.Need-cast-out-2
-cast-out-2 c = omega (arith, and-mask (c .args .a) 4)
+cast-out-2 c =
+    record { fits = lt-of-le-of-lt (le-trans (mod-le _ _) (mul-le-mul-right 16 (and-le-r (c .args .a) _))) (lit< tt) }
 
 add-out : tie.Need-add-out
 add-out c = search needs
