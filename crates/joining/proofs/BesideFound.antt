@@ -9,15 +9,15 @@ use native.Mathlib.Numerals.{add-one}
 use native.Mathlib.Omega.{arith}
 use lib.Dec.{ltb}
 use lib.ListN.{length, getD}
-use borrow.Author.Tests.{eq-eqb, ne-eqb, ltb-true, ltb-false}
+use borrow.Author.Tests.{eq-eqb, ne-eqb, eqb-true, eqb-false, lt-ltb, ltb-true, ltb-false, not-true, not-false}
 use Rattle.fields.proofs.Counting.{one-less}
-use Rattle.fields.proofs.Tests.{either}
+use Rattle.fields.proofs.Tests.{either, both}
 use Rattle.reception.specs.declared.Head.{Head}
 use Rattle.reception.specs.Sendings.{Held, heldIn}
 use Rattle.reception.specs.Walk.{fits, mayEnd}
-use Rattle.reception.specs.Neighbours.{endTo, octetsTo, nextFits}
+use Rattle.reception.specs.Neighbours.{EndBelow, endTo, octetsTo, nextFits}
 use Rattle.reception.proofs.NeighboursDecide.{end-heard, end-unheard}
-use Rattle.joining.specs.Beside.{FirstFrom, BesideIs}
+use Rattle.joining.specs.Beside.{unheardAt, FirstFrom, BesideIs}
 
 -- the loop is at place j, and nothing was heard from the place `from` up to there
 pub record Looking (marks : List ℕ) (from j : ℕ) : Type 0 where
@@ -29,26 +29,48 @@ pub look-start : (marks : List ℕ) (from : ℕ) → from ≤ length marks → L
 look-start marks from le = record { after = omega arith; inside = le; none = λ m a b _. omega arith }
 
 module _ (marks : List ℕ) (from j : ℕ) (g : Looking marks from j) where
-  pub look-on : j < length marks → (getD marks j 0 ≡ 1 → ⊥) → Looking marks from (j + 1)
-  look-on lt t =
-      record {
-        after = omega (arith, g .after);
-        inside = omega arith;
-        none = λ m a b h.
-            ⊎-elim (λ (u : ltb m j ≡ true). g .none m a (ltb-true m j u) h)
-            (λ (u : ltb m j ≡ false). let q = ltb-false m j u in let e : m ≡ j = omega arith in t (rw e at h)) (either (ltb m j));
-      }
+  module _ (b : Bool) (asked : b ≡ unheardAt marks j) where
+    -- nothing was heard there: the walk goes on
+    pub look-on : b ≡ true → Looking marks from (j + 1)
+    unfolding unheardAt
+    look-on t =
+        let p = both (ltb j (length marks)) _ (sym asked ∙ t) in
+        let lt = ltb-true j (length marks) (p .0) in
+        let f = eqb-false (getD marks j 0) 1 (not-true _ (p .1)) in
+        record {
+          after = omega (arith, g .after);
+          inside = omega arith;
+          none = λ m a b h.
+              ⊎-elim (λ (u : ltb m j ≡ true). g .none m a (ltb-true m j u) h)
+              (λ (u : ltb m j ≡ false). let q = ltb-false m j u in let e : m ≡ j = omega arith in f (rw e at h)) (either (ltb m j));
+        }
 
-  pub look-found : getD marks j 0 ≡ 1 → FirstFrom marks from j
-  look-found t = record { after = g .after; inside = g .inside; none = g .none; found = λ _. t }
+    -- a packet was heard there, or the places are at their end
+    pub look-ends : b ≡ false → FirstFrom marks from j
+    unfolding unheardAt
+    look-ends t =
+        record {
+          after = g .after;
+          inside = g .inside;
+          none = g .none;
+          found = λ lt. eqb-true (getD marks j 0) 1 (not-false _ (rw (lt-ltb j (length marks) lt) at (sym asked ∙ t)));
+        }
 
-  pub look-none : length marks ≤ j → FirstFrom marks from j
-  look-none le = record { after = g .after; inside = g .inside; none = g .none; found = λ lt. absurd (omega arith) }
+-- the search is at number k: it knows where the last packet heard below k ends, and that from k up to next nothing was heard
+pub record Walked (marks elapsed sizes : List ℕ) (k i a next : ℕ) : Type 0 where
+  pub below : EndBelow marks elapsed sizes k i a
+  pub along : Looking marks k next
+
+-- the walk has come to the first place from k on in which a packet was heard
+pub beside-found : (marks elapsed sizes : List ℕ) (k i a stood next : ℕ) → Walked marks elapsed sizes k i a stood → Looking marks k next → (b : Bool)
+    → b ≡ unheardAt marks next → b ≡ false → BesideIs marks elapsed sizes k i a next
+beside-found marks elapsed sizes k i a stood next w l b asked f = record { below = w .below; above = look-ends marks k next l b asked f }
 
 -- before number 0 no packet ends
-pub beside-start : (marks elapsed sizes : List ℕ) (next : ℕ) → FirstFrom marks 0 next → BesideIs marks elapsed sizes 0 0 0 next
+pub walk-starts : (marks elapsed sizes : List ℕ) → Walked marks elapsed sizes 0 0 0 0
 unfolding endTo octetsTo
-beside-start marks elapsed sizes next f = record { below = record { number-is = λ _. refl; octets-are = λ _. refl }; above = f }
+walk-starts marks elapsed sizes =
+    record { below = record { number-is = λ _. refl; octets-are = λ _. refl }; along = look-start marks 0 (omega arith) }
 
 module _ (marks elapsed sizes : List ℕ) (k i a next : ℕ) (b : BesideIs marks elapsed sizes k i a next) where
   -- where the left did not hear packet k, nothing beside it changes
@@ -65,15 +87,15 @@ module _ (marks elapsed sizes : List ℕ) (k i a next : ℕ) (b : BesideIs marks
           found = b .above .found;
         }
 
-    pub stays-beside : BesideIs marks elapsed sizes (k + 1) i a next
-    stays-beside =
+    pub walks-past : Walked marks elapsed sizes (k + 1) i a next
+    walks-past =
         record {
           below =
               record {
                 number-is = λ h. b .below .number-is h ∙ rw (add-one k) (sym (end-unheard (heldIn h marks elapsed sizes) k (ne-eqb _ _ not-heard) .0));
                 octets-are = λ h. b .below .octets-are h ∙ rw (add-one k) (sym (end-unheard (heldIn h marks elapsed sizes) k (ne-eqb _ _ not-heard) .1));
               };
-          above = above-next;
+          along = record { after = above-next .after; inside = above-next .inside; none = above-next .none };
         }
 
   -- where it did, that packet is the last one now
@@ -83,16 +105,15 @@ module _ (marks elapsed sizes : List ℕ) (k i a next : ℕ) (b : BesideIs marks
         let e : next ≡ k = omega (arith, b .above .after) in
         rw e at (b .above .found (omega arith))
 
-    pub goes-beside : (e l : ℕ) → e ≡ getD elapsed k 0 → l ≡ getD sizes k 0 → (next' : ℕ) → FirstFrom marks (k + 1) next'
-        → BesideIs marks elapsed sizes (k + 1) (k + 1) (e + l) next'
-    goes-beside e l el ll next' f =
+    pub walks-on : (n o : ℕ) → n ≡ k + 1 → o ≡ getD elapsed k 0 + getD sizes k 0 → Walked marks elapsed sizes (k + 1) n o (k + 1)
+    walks-on n o n-is o-is =
         record {
           below =
               record {
-                number-is = λ h. rw (add-one k) (sym (end-heard (heldIn h marks elapsed sizes) k (eq-eqb _ _ was-heard) .0));
-                octets-are = λ h. rw (add-one k, el, ll) (sym (end-heard (heldIn h marks elapsed sizes) k (eq-eqb _ _ was-heard) .1));
+                number-is = λ h. rw (n-is, add-one k) (sym (end-heard (heldIn h marks elapsed sizes) k (eq-eqb _ _ was-heard) .0));
+                octets-are = λ h. rw (o-is, add-one k) (sym (end-heard (heldIn h marks elapsed sizes) k (eq-eqb _ _ was-heard) .1));
               };
-          above = f;
+          along = look-start marks (k + 1) (omega arith);
         }
 
 -- places in which nothing was heard are passed over

@@ -13,22 +13,21 @@ use Rattle.reception.specs.declared.Head.{Head}
 use Rattle.reception.specs.Sendings.{heldIn}
 use Rattle.reception.specs.Adding.{packetContradicts}
 use Rattle.reception.specs.Joining.{packetOff, lowestOff, lowest}
-use Rattle.joining.specs.Beside.{FirstFrom, BesideIs, LowestFound}
-use Rattle.joining.proofs.BesideFound.{beside-start}
+use Rattle.joining.specs.Beside.{LowestFound}
+use Rattle.joining.proofs.BesideFound.{Walked, walk-starts}
 
--- the loop is at number k: it knows what the left heard beside it, and the lowest number of all is the lowest of the rest
+-- the loop is at number k: it knows how far the left was walked over, and the lowest number of all is the lowest of the rest
 pub record Searching (h : Head) (marks elapsed sizes om oe os : List ℕ) (i a next k : ℕ) : Type 0 where
   pub here : k ≤ length marks
-  pub beside : BesideIs marks elapsed sizes k i a next
+  pub walked : Walked marks elapsed sizes k i a next
   pub same : (g : Head) → lowest (heldIn h marks elapsed sizes) (heldIn g om oe os)
       ≡ lowestOff (heldIn h marks elapsed sizes) (heldIn g om oe os) (length marks - k) k
 
-pub search-start : (h : Head) (marks elapsed sizes om oe os : List ℕ) (next : ℕ) → FirstFrom marks 0 next
-    → Searching h marks elapsed sizes om oe os 0 0 next 0
-search-start h marks elapsed sizes om oe os next f =
+pub search-start : (h : Head) (marks elapsed sizes om oe os : List ℕ) → Searching h marks elapsed sizes om oe os 0 0 0 0
+search-start h marks elapsed sizes om oe os =
     record {
       here = omega arith;
-      beside = beside-start marks elapsed sizes next f;
+      walked = walk-starts marks elapsed sizes;
       same = λ g. ap (λ (n : ℕ). lowestOff (heldIn h marks elapsed sizes) (heldIn g om oe os) n 0) (sym (sub-zero (length marks)));
     }
 
@@ -48,11 +47,11 @@ module _ (h : Head) (marks elapsed sizes om oe os : List ℕ) (i a next k : ℕ)
     search-off t = record { number-is = λ g. sym (s .same g ∙ rw (left, off-is g, t)) }
 
     -- it does not: the search goes on
-    pub search-on : b ≡ false → (i' a' next' : ℕ) → BesideIs marks elapsed sizes (k + 1) i' a' next'
+    pub search-on : b ≡ false → (i' a' next' : ℕ) → Walked marks elapsed sizes (k + 1) i' a' next'
         → Searching h marks elapsed sizes om oe os i' a' next' (k + 1)
     unfolding lowestOff
     search-on t i' a' next' d =
-        record { here = omega arith; beside = d; same = λ g. s .same g ∙ rw (left, off-is g, t, add-one k) }
+        record { here = omega arith; walked = d; same = λ g. s .same g ∙ rw (left, off-is g, t, add-one k) }
 
   -- none does
   pub search-none : length marks ≤ k → LowestFound h marks elapsed sizes om oe os k

@@ -2,11 +2,17 @@
 use Prim.Native.Nat.{ℕ, _≤_, _<_}
 use mathlib.Core.Path.{_≡_}
 use mathlib.Core.List.{List}
+use mathlib.Core.Bool.{Bool, not, _&&_}
+use lib.Dec.{ltb, eqb}
 use lib.ListN.{length, getD}
 use Rattle.reception.specs.declared.Head.{Head}
 use Rattle.reception.specs.Sendings.{heldIn}
 use Rattle.reception.specs.Neighbours.{EndBelow}
 use Rattle.reception.specs.Joining.{lowest}
+
+-- "for each packet number below capacity it holds: heard or not": place j is one of them, and not heard
+unfoldable pub unheardAt : List ℕ → ℕ → Bool
+unheardAt marks j = ltb j (length marks) && not (eqb (getD marks j 0) 1)
 
 -- the first place from a place on in which a packet was heard, or the place behind them all
 pub record FirstFrom (marks : List ℕ) (from next : ℕ) : Type 0 where

@@ -2,62 +2,45 @@
 // the left, which goes on from where it stood.
 ghost use mathlib.Core.Path.{_≡_};
 ghost use mathlib.Core.Bool.{true, _&&_};
-ghost use Prim.Native.Nat.{_+_, _-_, _≤_, _<_};
+ghost use Prim.Native.Nat.{_+_, _-_, _<_};
 ghost use lib.Dec.{eqb};
-ghost use lib.ListN.{length};
+ghost use lib.ListN.{length, getD};
 ghost use Rattle.reception.specs.Sendings.{heldIn};
 ghost use Rattle.reception.specs.Walk.{isExplained};
 ghost use Rattle.reception.specs.Damage.{Matched};
 ghost use Rattle.reception.specs.Adding.{packetContradicts};
 ghost use Rattle.reception.specs.Neighbours.{nextFits};
-ghost use Rattle.joining.specs.Beside.{FirstFrom, BesideIs, LowestFound};
+ghost use Rattle.joining.specs.Beside.{unheardAt, FirstFrom, BesideIs, LowestFound};
 use damage::is_fit;
 use damage::may_end;
 use fields::widths::from_u16;
 use fields::widths::from_u32;
 use hearing::contradicting::differs;
+use hearing::looking::End;
 use reception::Head;
 use units::Octets;
 use units::Packets;
 
-// Where the last packet heard below a number ends, and the first place from that number on in which one was heard.
-pub struct Beside {
-    pub number: Packets,
-    pub octets: Octets,
-    pub next: usize,
+// Whether a place of a record is one in which nothing was heard.
+fn is_unheard(marks: &[u8], j: usize) -> bool
+    ensures { λ r. ⌜ r ≡ unheardAt (now (marks .entry)) j ⌝ }
+{
+    if j < marks.len() {
+        return marks[j] != 1;
+    }
+    false
 }
 
-// The first place from a place on in which a packet was heard, or the place behind them all.
-fn next_heard(marks: &[u8], from: usize) -> usize
-    requires { ⌜ from ≤ length (now marks) ⌝ }
-    ensures { λ r. ⌜ FirstFrom (now (marks .entry)) from r ⌝ }
+// Where packet k ends.
+fn end_of(elapsed: &[u32], sizes: &[u16], k: usize) -> End
+    requires { ⌜ (k < length (now elapsed)) × (k < length (now sizes)) × (k < 65536) ⌝ }
+    ensures { λ r. ⌜ (r .number .0 ≡ k + 1) × (r .octets .0 ≡ getD (now (elapsed .entry)) k 0 + getD (now (sizes .entry)) k 0) ⌝ }
 {
-    let mut j = from;
-    while j < marks.len() {
-        if marks[j] == 1 {
-            break;
-        }
-        j += 1;
-    }
-    j
-}
-
-// Beside the number after k.
-fn moved_on(b: Beside, marks: &[u8], elapsed: &[u32], sizes: &[u16], k: usize) -> Beside
-    requires { ⌜ Matched (now marks) (now elapsed) (now sizes) ⌝ }
-    requires { ⌜ BesideIs (now marks) (now elapsed) (now sizes) k (b .number .0) (b .octets .0) (b .next) ⌝ }
-    requires { ⌜ k < length (now marks) ⌝ }
-    ensures { λ r. ⌜ BesideIs (now (marks .entry)) (now (elapsed .entry)) (now (sizes .entry)) (k + 1) (r .number .0) (r .octets .0) (r .next) ⌝ }
-{
-    if k < b.next {
-        return b;
-    }
     let e = from_u32(elapsed[k]);
     let l = from_u16(sizes[k]);
-    Beside {
+    End {
         number: Packets(k as u32 + 1),
         octets: Octets(e + l),
-        next: next_heard(marks, k + 1),
     }
 }
 
@@ -92,7 +75,8 @@ fn next_follows(
 // Whether a packet k of the right, if it was heard (m), alone contradicts the left.
 fn is_off(
     h: Head,
-    b: Beside,
+    last: End,
+    next: usize,
     marks: &[u8],
     elapsed: &[u32],
     sizes: &[u16],
@@ -103,20 +87,26 @@ fn is_off(
 ) -> bool
     requires { ⌜ Matched (now marks) (now elapsed) (now sizes) ⌝ }
     requires { ⌜ isExplained (heldIn h (now marks) (now elapsed) (now sizes)) ≡ true ⌝ }
-    requires { ⌜ BesideIs (now marks) (now elapsed) (now sizes) k (b .number .0) (b .octets .0) (b .next) ⌝ }
+    requires { ⌜ BesideIs (now marks) (now elapsed) (now sizes) k (last .number .0) (last .octets .0) next ⌝ }
     requires { ⌜ (k < length (now marks)) × (e < 4294967296) × (l < 65536) ⌝ }
     ensures { λ r. ⌜ r ≡ (eqb m 1 && packetContradicts (heldIn h (now (marks .entry)) (now (elapsed .entry)) (now (sizes .entry))) k e l) ⌝ }
 {
     if m != 1 {
         return false;
     }
-    if b.next <= k {
+    if next <= k {
         return differs(from_u32(elapsed[k]), from_u16(sizes[k]), e, l);
     }
-    if !is_fit(b.number, b.octets, Packets(k as u32), Octets(e), Octets(l)) {
+    if !is_fit(
+        last.number,
+        last.octets,
+        Packets(k as u32),
+        Octets(e),
+        Octets(l),
+    ) {
         return true;
     }
-    !next_follows(h, b.next, marks, elapsed, sizes, k, Octets(e + l))
+    !next_follows(h, next, marks, elapsed, sizes, k, Octets(e + l))
 }
 
 // The lowest packet number of the right that alone contradicts the left, or the capacity where none does.
@@ -135,20 +125,30 @@ pub fn lowest_off(
     requires { ⌜ isExplained (heldIn h (now marks) (now elapsed) (now sizes)) ≡ true ⌝ }
     ensures { λ r. ⌜ LowestFound h (now (marks .entry)) (now (elapsed .entry)) (now (sizes .entry)) (now («r_marks» .entry)) (now («r_elapsed» .entry)) (now («r_sizes» .entry)) r ⌝ }
 {
-    let mut b = Beside {
+    let mut last = End {
         number: Packets(0),
         octets: Octets(0),
-        next: next_heard(marks, 0),
     };
+    let mut next: usize = 0;
     let mut k: usize = 0;
-    while k < marks.len() {
+    let found = loop {
+        if marks.len() <= k {
+            break k;
+        }
+        // The walk over the left goes on to its next packet.
+        while is_unheard(marks, next) {
+            next += 1;
+        }
         let e = from_u32(r_elapsed[k]);
         let l = from_u16(r_sizes[k]);
-        if is_off(h, b, marks, elapsed, sizes, r_marks[k], k, e, l) {
-            break;
+        if is_off(h, last, next, marks, elapsed, sizes, r_marks[k], k, e, l) {
+            break k;
         }
-        b = moved_on(b, marks, elapsed, sizes, k);
+        if next <= k {
+            last = end_of(elapsed, sizes, k);
+            next = k + 1;
+        }
         k += 1;
-    }
-    k
+    };
+    found
 }

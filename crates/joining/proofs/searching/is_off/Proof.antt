@@ -38,17 +38,17 @@ returns-2 : tie.Need-returns-2
 returns-2 c =
     let q = c .before in
     let t = q .before .before .before .before in
-    let o = t .before .before in
+    let o = t .before in
     let s = o .before .before .before .before in
     let h = was-heard _ _ _ _ _ _ _ (s .pre .1 .1 .0) (t .if2 .taken) (s .pre .1 .1 .1 .0) in
     and-heard _ _ _ (o .if1 .left) (held-packet _ _ _ _ _ _ h (q .before .before .from-u32 .ensures .0) (q .from-u16 .ensures .0) _ (c .differs .ensures))
 
-cast-t19 : tie.Need-cast-t19
-cast-t19 c = search needs
+cast-t20 : tie.Need-cast-t20
+cast-t20 c = search needs
 
 is-fit-requires : tie.Need-is-fit-requires
 is-fit-requires c κs =
-    let s = c .before .before .before .before .before .before in
+    let s = c .before .before .before .before .before in
     let a = s .args in
     let n = s .pre .1 .1 .0 .below .number-is (a .h) in
     let b = end-back (heldIn (a .h) (now (a .marks)) (now (a .elapsed)) (now (a .sizes))) (a .k) in
@@ -57,26 +57,26 @@ is-fit-requires c κs =
 returns-3 : tie.Need-returns-3
 returns-3 c =
     let f = c .before in
-    let o = f .before .before .before in
+    let o = f .before .before in
     let s = o .before .before .before .before in
     let d = s .pre .1 .1 .0 in
     and-heard _ _ _ (o .if1 .left)
     (far-off _ _ _ _ (s .pre .1 .0) (s .pre .1 .1 .1 .0) (not-heard _ _ _ _ _ _ _ d (f .before .if2 .left)) _ _ (d .below .number-is (s .args .h)) (d .below .octets-are (s .args .h)) _ (f .is-fit .ensures) (not-true _ (c .if3 .taken)))
 
-add-t24 : tie.Need-add-t24
-add-t24 c = search needs
+add-t25 : tie.Need-add-t25
+add-t25 c = search needs
 
 next-follows-requires : tie.Need-next-follows-requires
 next-follows-requires c κs =
     let e = c .before .before in
-    let s = e .before .before .before .before .before .before in
+    let s = e .before .before .before .before .before in
     (s .pre .0, above-next _ _ _ _ _ _ _ (s .pre .1 .1 .0) (e .if2 .left))
 
 returns-4 : tie.Need-returns-4
 returns-4 c =
     let g = c .before in
     let f = g .before in
-    let o = f .before .before .before in
+    let o = f .before .before in
     let s = o .before .before .before .before in
     let d = s .pre .1 .1 .0 in
     and-heard _ _ _ (o .if1 .left)
@@ -94,9 +94,9 @@ is-off-spec =
     shared-slice-read-from-u16
     from-u16-requires
     differs-requires
-    returns-2 cast-t19
+    returns-2 cast-t20
     is-fit-requires
     returns-3
-    add-t24
+    add-t25
     next-follows-requires
     returns-4)
