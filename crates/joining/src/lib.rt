@@ -73,7 +73,7 @@ fn capacities_off(
 }
 
 // Whether the right's closing alone contradicts the left.
-fn closing_off(h: Head, marks: &[u8], elapsed: &[u32], sizes: &[u16], g: Head) -> bool
+fn right_closing_off(h: Head, marks: &[u8], elapsed: &[u32], sizes: &[u16], g: Head) -> bool
     requires { ⌜ Matched (now marks) (now elapsed) (now sizes) ⌝ }
     requires { ⌜ isExplained (heldIn h (now marks) (now elapsed) (now sizes)) ≡ true ⌝ }
     ensures { λ r. ⌜ r ≡ (g .closed && closingContradicts (heldIn h (now (marks .entry)) (now (elapsed .entry)) (now (sizes .entry))) (g .count .0) (g .total .0)) ⌝ }
@@ -112,7 +112,7 @@ fn join_undamaged(
     if k < marks.len() {
         return contradicted(h, k as u32);
     }
-    if closing_off(h, marks, elapsed, sizes, g) {
+    if right_closing_off(h, marks, elapsed, sizes, g) {
         return contradicted(h, CLOSING);
     }
     write_union(marks, elapsed, sizes, r_marks, r_elapsed, r_sizes);

@@ -50,8 +50,8 @@ returns c =
     let l = c .before .before in
     contradicted-as _ _ (names-packet _ _ (both (l .before .before .before .before .before .before .before .before .before .before)) _ (l .lowest-off .ensures) (c .before .if1 .taken)) (c .contradicted .ensures)
 
-closing-off-requires : tie.Need-closing-off-requires
-closing-off-requires c κs =
+right-closing-off-requires : tie.Need-right-closing-off-requires
+right-closing-off-requires c κs =
     let j = both (c .before .before .before .before .before .before .before .before .before .before .before .before .before .before) in
     (sound-lists _ (j .left), explained _ _ (j .left .undamaged))
 
@@ -72,7 +72,7 @@ returns-2 c =
     let f = c .before .before in
     let e = f .before .before .before .before in
     let l = e .before in
-    contradicted-as _ _ (names-closing _ _ (both (l .before .before .before .before .before .before .before .before .before .before)) _ (l .lowest-off .ensures) (e .if1 .left) (sym (f .closing-off .ensures) ∙ c .before .if2 .taken)) (c .contradicted2 .ensures)
+    contradicted-as _ _ (names-closing _ _ (both (l .before .before .before .before .before .before .before .before .before .before)) _ (l .lowest-off .ensures) (e .if1 .left) (sym (f .right-closing-off .ensures) ∙ c .before .if2 .taken)) (c .contradicted2 .ensures)
 
 write-union-requires : tie.Need-write-union-requires
 write-union-requires c κs =
@@ -81,7 +81,7 @@ write-union-requires c κs =
     let e = f .before .before .before .before in
     let l = e .before in
     let j = both (l .before .before .before .before .before .before .before .before .before .before) in
-    let t = joins-both _ _ j _ (l .lowest-off .ensures) (e .if1 .left) (sym (f .closing-off .ensures) ∙ o .if2 .left) in
+    let t = joins-both _ _ j _ (l .lowest-off .ensures) (e .if1 .left) (sym (f .right-closing-off .ensures) ∙ o .if2 .left) in
     (sound-lists _ (j .left), (sound-lists _ (j .right), (j .long, either-by-bits _ _ j t)))
 
 joined-head-requires : tie.Need-joined-head-requires
@@ -104,7 +104,7 @@ returns-3 c =
     let e = f .before .before .before .before in
     let l = e .before in
     let z = w .write-union .ensures in
-    joined-as _ (joins-both _ _ (both (l .before .before .before .before .before .before .before .before .before .before)) _ (l .lowest-off .ensures) (e .if1 .left) (sym (f .closing-off .ensures) ∙ o .if2 .left)) (rw (c .joined-head .ensures) refl) (z .0) (z .1) (z .2)
+    joined-as _ (joins-both _ _ (both (l .before .before .before .before .before .before .before .before .before .before)) _ (l .lowest-off .ensures) (e .if1 .left) (sym (f .right-closing-off .ensures) ∙ o .if2 .left)) (rw (c .joined-head .ensures) refl) (z .0) (z .1) (z .2)
 
 pub join-undamaged-spec : {M : Type 1} → statement M
 join-undamaged-spec =
@@ -117,7 +117,7 @@ join-undamaged-spec =
     same-length-2
     same-length-3
     returns
-    closing-off-requires
+    right-closing-off-requires
     contradicted-requires-2
     same-length-4
     same-length-5
