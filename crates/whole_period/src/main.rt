@@ -15,8 +15,8 @@ use told::size_of_data;
 use units::Octets;
 use units::Packets;
 
-// Three sequences of a period, one of them without data, and what is out of turn.
-fn first_period() -> Sender {
+// What is out of turn before a sequence and within it.
+fn out_of_turn() -> Sender {
     let mut s = sender::fresh();
     s = data(b"data before open", s, b"abc");
     s = close(b"close before open", s);
@@ -24,11 +24,22 @@ fn first_period() -> Sender {
     s = open(b"open 100", s, 100);
     s = open(b"open again", s, 101);
     s = renew(b"new period while open", s);
+    s
+}
+
+// Three sequences of a period, one of them without data, and what is out of turn.
+fn first_period() -> Sender {
+    let mut s = out_of_turn();
     s = data(b"data abc", s, b"abc");
     s = data(b"data none", s, b"");
     s = data(b"data hello", s, b"hello");
     s = close(b"close", s);
-    s = open(b"open 100", s, 100);
+    again(s)
+}
+
+// The next sequence comes later than the last.
+fn again(before: Sender) -> Sender {
+    let mut s = open(b"open 100", before, 100);
     s = open(b"open 99", s, 99);
     s = open(b"open 101", s, 101);
     s = close(b"close without data", s);
