@@ -2,6 +2,7 @@ pub mod AcceptedAgain
 pub mod EachFixed
 pub mod ExportedFixed
 pub mod HeardJoinedReported
+pub mod ListsAsBefore
 pub mod NoneOfThem
 pub mod NumbersAndMemory
 pub mod OneTable

@@ -79,7 +79,7 @@ hear-leaves k bearer period f =
     whichever (OutcomeLeaves ofHearing k) _ _ (unmatched k) (refl, λ _. refl) (λ _. read-leaves k bearer period (readFrame f) (read-carries f))
 
 -- many frames at once
-many-leaves : (bearer period stamp : ℕ) (old : Kept) (frames : List (List ℕ)) (room : ℕ)
+pub many-leaves : (bearer period stamp : ℕ) (old : Kept) (frames : List (List ℕ)) (room : ℕ)
     → OutcomeLeaves ofHearingMany old (hearSequence bearer period stamp old frames room)
 unfolding hearSequence takenPaper among
 many-leaves bearer period stamp old frames room =
@@ -88,7 +88,7 @@ many-leaves bearer period stamp old frames room =
     whichever (OutcomeLeaves ofHearingMany old) _ _ (ltb lastStamp stamp) (refl, λ _. refl)
     (λ _. whichever (OutcomeLeaves ofHearingMany old) _ _ (ltb room (length frames)) (refl, λ _. refl) (λ _. (refl, no-zero))))
 
-none-numbered : (a : Taken) (ts : List Taken) (old : List ℕ) → takenPaper a .accepted ≡ 0 → numbersAfter a ts old ≡ old
+pub none-numbered : (a : Taken) (ts : List Taken) (old : List ℕ) → takenPaper a .accepted ≡ 0 → numbersAfter a ts old ≡ old
 unfolding takenPaper
 none-numbered TakenDone ts old e = no-zero e
 none-numbered (NotTaken r) ts old e = refl
