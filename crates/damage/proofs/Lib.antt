@@ -1,2 +1,3 @@
+pub mod JudgedCounted
 pub mod Walking
 pub mod WrongBySum

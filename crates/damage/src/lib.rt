@@ -1,18 +1,20 @@
 // What the functions that hear, join and report ask of a record first: whether its lists match, whether it is damaged (one pass over
 // its places), and whether a key is its own.
+pub mod judging;
+
 ghost use mathlib.Core.Path.{_≡_};
-ghost use Prim.Native.Nat.{_≤_, _<_};
+ghost use Prim.Native.Nat.{_≤_};
 ghost use Rattle.reception.specs.Sendings.{heldIn};
 ghost use Rattle.reception.specs.Walk.{reach, fits, mayEnd};
 ghost use Rattle.reception.specs.Hearing.{listsDiffer, otherKey};
-ghost use Rattle.reception.specs.Damage.{Matched, placeWrong, closingOff, walkFails, damagedRecord};
+ghost use Rattle.reception.specs.Damage.{Matched, placeWrong, closingOff, damagedRecord};
 use fields::widths::from_u8;
 use fields::widths::from_u16;
 use fields::widths::from_u32;
+use judging::judge;
 use reception::Head;
 use units::Octets;
 use units::Packets;
-use units::limits::LAST_STAMP;
 use units::limits::MOST_CAPACITY;
 use units::limits::MOST_PAYLOAD;
 
@@ -74,33 +76,6 @@ pub fn place_wrong(m: u8, e: u32, l: u16) -> bool
     from_u8(m) + from_u32(e) + from_u16(l) != 0
 }
 
-// Whether a place is wrong, or no sending explains the record.
-fn walk_fails(h: Head, marks: &[u8], elapsed: &[u32], sizes: &[u16]) -> bool
-    requires { ⌜ Matched (now marks) (now elapsed) (now sizes) ⌝ }
-    ensures { λ r. ⌜ r ≡ walkFails (heldIn h (now (marks .entry)) (now (elapsed .entry)) (now (sizes .entry))) ⌝ }
-{
-    let mut i = Packets(0);
-    let mut a = Octets(0);
-    let mut k: usize = 0;
-    while k < marks.len() {
-        if marks[k] == 1 {
-            let e = from_u32(elapsed[k]);
-            let l = from_u16(sizes[k]);
-            if !is_fit(i, a, Packets(k as u32), Octets(e), Octets(l)) {
-                return true;
-            }
-            i = Packets(k as u32 + 1);
-            a = Octets(e + l);
-        } else {
-            if place_wrong(marks[k], elapsed[k], sizes[k]) {
-                return true;
-            }
-        }
-        k += 1;
-    }
-    !may_end(h, i, a)
-}
-
 // An N above capacity, or a closing that was not heard and is not zero.
 pub fn closing_off(h: Head, capacity: usize) -> bool
     ensures { λ r. ⌜ r ≡ closingOff (h .closed) (h .count .0) (h .total .0) capacity ⌝ }
@@ -117,18 +92,13 @@ pub fn closing_off(h: Head, capacity: usize) -> bool
     h.total.0 != 0
 }
 
-// Whether the record is damaged.
+// Whether the record is damaged; what else judging says is not asked for here, and the compiler drops it.
 pub fn is_damaged(h: Head, marks: &[u8], elapsed: &[u32], sizes: &[u16]) -> bool
     requires { ⌜ Matched (now marks) (now elapsed) (now sizes) ⌝ }
     ensures { λ r. ⌜ r ≡ damagedRecord (h .stamp) (heldIn h (now (marks .entry)) (now (elapsed .entry)) (now (sizes .entry))) ⌝ }
 {
-    if LAST_STAMP < h.stamp as u64 {
-        return true;
-    }
-    if closing_off(h, marks.len()) {
-        return true;
-    }
-    walk_fails(h, marks, elapsed, sizes)
+    let j = judge(h, marks, elapsed, sizes);
+    j.damaged
 }
 
 // Whether bearer, period or stamp is another sequence's.

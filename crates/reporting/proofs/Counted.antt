@@ -20,16 +20,9 @@ use Rattle.reception.proofs.NeighboursDecide.{end-heard, end-unheard}
 use Rattle.reception.proofs.GapsAreUnheard.{of-gaps, heard-one, heard-none}
 use Rattle.reception.proofs.GapOctets.{unchanged, octets-one, octets-none, clear-past}
 use Rattle.reception.proofs.ReportAccounts.{SentAs}
-use Rattle.reporting.specs.Counting.{gapBetween, gapsTo, Ended, Tallied}
-
--- the gaps, place by place
-gaps-one : (r : Held) (n : ℕ) → isHeard r n ≡ true → gapsTo r (suc n) ≡ gapsTo r n + gapBetween (endTo r n) n
-unfolding gapsTo
-gaps-one r n h = rw h
-
-gaps-none : (r : Held) (n : ℕ) → isHeard r n ≡ false → gapsTo r (suc n) ≡ gapsTo r n
-unfolding gapsTo
-gaps-none r n h = rw h (omega arith)
+use Rattle.damage.specs.Judging.{gapBetween, gapsTo}
+use Rattle.damage.proofs.JudgedCounted.{gaps-one, gaps-none, ended-start, ended-heard, ended-unheard}
+use Rattle.reporting.specs.Counting.{Tallied}
 
 -- there is one gap more, or none
 gap-first : (i a k e : ℕ) (gs : List Gap) → length (gapTo i a k e ++ gs) ≡ gapBetween i k + length gs
@@ -64,12 +57,7 @@ gaps-counted r s x =
     in
     omega (arith, p, q, g, ap (gapsTo r) (x .packets))
 
--- before the first place nothing ends and nothing was counted
-pub ended-start : (marks elapsed sizes : List ℕ) → Ended marks elapsed sizes 0 0 0 0
-unfolding endTo octetsTo gapsTo
-ended-start marks elapsed sizes =
-    record { end-is = λ h. refl; before-is = λ h. refl; gaps-are = λ h. refl; gaps-few = omega arith }
-
+-- before the first place nothing was counted
 pub tally-start : (marks elapsed sizes : List ℕ) → length marks ≤ mostCapacity → Tallied marks elapsed sizes 0 0 0 0 0 0
 unfolding heardTo heardOctetsTo
 tally-start marks elapsed sizes fits =
@@ -82,32 +70,6 @@ tally-start marks elapsed sizes fits =
       heard-few = omega arith;
       octets-few = omega arith;
     }
-
-module _ (marks elapsed sizes : List ℕ) (k end before gaps : ℕ) (t : Ended marks elapsed sizes k end before gaps) where
-  -- packet k was heard
-  pub ended-heard : getD marks k 0 ≡ 1 → (e l b : ℕ) → e ≡ getD elapsed k 0 → l ≡ getD sizes k 0 → (b ≡ gapBetween end k) × (b ≤ 1)
-      → Ended marks elapsed sizes (k + 1) (k + 1) (e + l) (gaps + b)
-  ended-heard m e l b el ll bl =
-      rw (add-one k)
-      (record {
-        end-is = λ h. sym (end-heard (heldIn h marks elapsed sizes) k (eq-eqb _ _ m) .0);
-        before-is = λ h. omega (arith, el, ll, end-heard (heldIn h marks elapsed sizes) k (eq-eqb _ _ m) .1);
-        gaps-are = λ h.
-            let same : gapBetween end k ≡ gapBetween (endTo (heldIn h marks elapsed sizes) k) k = ap (λ (x : ℕ). gapBetween x k) (t .end-is h) in
-            omega (arith, t .gaps-are h, bl .0, same, gaps-one (heldIn h marks elapsed sizes) k (eq-eqb _ _ m));
-        gaps-few = omega (arith, t .gaps-few, bl .1);
-      })
-
-  -- or not
-  pub ended-unheard : (getD marks k 0 ≡ 1 → ⊥) → Ended marks elapsed sizes (k + 1) end before gaps
-  ended-unheard m =
-      rw (add-one k)
-      (record {
-        end-is = λ h. t .end-is h ∙ sym (end-unheard (heldIn h marks elapsed sizes) k (ne-eqb _ _ m) .0);
-        before-is = λ h. t .before-is h ∙ sym (end-unheard (heldIn h marks elapsed sizes) k (ne-eqb _ _ m) .1);
-        gaps-are = λ h. t .gaps-are h ∙ sym (gaps-none (heldIn h marks elapsed sizes) k (ne-eqb _ _ m));
-        gaps-few = omega (arith, t .gaps-few);
-      })
 
 module _ (marks elapsed sizes : List ℕ) (k heard octets end before gaps : ℕ) (t : Tallied marks elapsed sizes k heard octets end before gaps) (lt : k < length marks) where
   pub tally-heard : getD marks k 0 ≡ 1 → (e l b : ℕ) → e ≡ getD elapsed k 0 → (l ≡ getD sizes k 0) × (l < 65536) → (b ≡ gapBetween end k) × (b ≤ 1)

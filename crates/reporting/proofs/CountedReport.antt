@@ -19,7 +19,7 @@ use Rattle.reception.proofs.DamagedExactly.{passed-undamaged}
 use Rattle.reception.proofs.ReportAccounts.{undamaged-sent, adds-up, gaps-right}
 use Rattle.reporting.specs.declared.writing.Filled.{Filled}
 use Rattle.reporting.specs.Writing.{reportWith}
-use Rattle.reporting.specs.Counting.{gapBetween, Ended}
+use Rattle.damage.specs.Judging.{gapBetween, Ended}
 use Rattle.reporting.proofs.Counted.{gaps-counted}
 
 -- a record whose lists match and that passes the test is undamaged

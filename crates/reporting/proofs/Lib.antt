@@ -4,4 +4,3 @@ pub mod CountedReport
 pub mod GapPut
 pub mod GapsLeft
 pub mod GapsWritten
-pub mod JudgedCounted

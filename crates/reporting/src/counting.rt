@@ -1,14 +1,14 @@
 // What a report says of a record: one pass over the places in which packets were heard.
 ghost use mathlib.Core.Path.{_≡_};
 ghost use mathlib.Core.Bool.{false, cond};
-ghost use Prim.Native.Nat.{_≤_};
 ghost use lib.ListN.{length};
 ghost use Rattle.reception.specs.Sendings.{heldIn};
 ghost use Rattle.reception.specs.Damage.{Matched};
 ghost use Rattle.reception.specs.Neighbours.{NoneFrom};
 ghost use Rattle.reception.specs.Hearing.{keptIn, damagedKept};
 ghost use Rattle.reception.specs.Reporting.{reportOf};
-ghost use Rattle.reporting.specs.Counting.{gapBetween, Tallied};
+ghost use Rattle.reporting.specs.Counting.{Tallied};
+use damage::judging::gap_between;
 use fields::widths::from_u16;
 use fields::widths::from_u32;
 use reception::Head;
@@ -23,16 +23,6 @@ pub struct Totals {
     pub end: Packets,
     pub before: Octets,
     pub gaps: u32,
-}
-
-// How many gaps are between packets that end before number i and packet k.
-pub fn gap_between(i: u32, k: u32) -> u32
-    ensures { λ r. ⌜ (r ≡ gapBetween i k) × (r ≤ 1) ⌝ }
-{
-    if i == k {
-        return 0;
-    }
-    1
 }
 
 // Counts over all places; from the place last on nothing was heard.

@@ -1,13 +1,12 @@
 // The report on a record: sent, heard and missing packets and octets, and the gaps.
 pub mod counting;
-pub mod judging;
 pub mod writing;
 
-use counting::gap_between;
 use counting::sent_octets;
 use counting::sent_packets;
+use damage::judging::gap_between;
+use damage::judging::judge;
 use damage::lists_differ;
-use judging::judge;
 use reception::Head;
 use reception::Report;
 use reception::Reported;

@@ -1,11 +1,11 @@
--- `reporting::judging::judge` meets its contract. Assumes nothing.
+-- `damage::judging::judge` meets its contract. Assumes nothing.
 use mathlib.Core.Path.{_∙_, sym}
 use borrow.Author.Tests.{lt-ltb, le-ltb}
 use Rattle.reception.specs.Damage.{damagedRecord}
-use Rattle.reporting.proofs.JudgedCounted.{judged-off, same-judged}
+use Rattle.damage.proofs.JudgedCounted.{judged-off, same-judged}
 use borrow.Author.Needs.{needs}
-use Rattle.reporting.proofs.judging.judge.Statement.{statement}
-use Rattle.reporting.proofs.judging.judge.Tie as tie
+use Rattle.damage.proofs.judging.judge.Statement.{statement}
+use Rattle.damage.proofs.judging.judge.Tie as tie
 
 cast-if1 : tie.Need-cast-if1
 cast-if1 c = search needs

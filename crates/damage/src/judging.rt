@@ -1,14 +1,14 @@
 // A record judged, and where its packets end and how many gaps lie before them, in one pass over its places.
 ghost use mathlib.Core.Path.{_≡_};
 ghost use mathlib.Core.Bool.{true};
+ghost use Prim.Native.Nat.{_≤_};
 ghost use Rattle.reception.specs.Sendings.{heldIn};
 ghost use Rattle.reception.specs.Damage.{Matched, walkFails, damagedRecord};
-ghost use Rattle.reporting.specs.Judging.{Judges};
-use crate::counting::gap_between;
-use damage::closing_off;
-use damage::is_fit;
-use damage::may_end;
-use damage::place_wrong;
+ghost use Rattle.damage.specs.Judging.{gapBetween, Judges};
+use crate::closing_off;
+use crate::is_fit;
+use crate::may_end;
+use crate::place_wrong;
 use fields::widths::from_u16;
 use fields::widths::from_u32;
 use reception::Head;
@@ -23,6 +23,16 @@ pub struct Judged {
     pub before: Octets,
     pub gaps: u32,
     pub damaged: bool,
+}
+
+// How many gaps are between packets that end before number i and packet k.
+pub fn gap_between(i: u32, k: u32) -> u32
+    ensures { λ r. ⌜ (r ≡ gapBetween i k) × (r ≤ 1) ⌝ }
+{
+    if i == k {
+        return 0;
+    }
+    1
 }
 
 // A damaged record, of which nothing else is said.

@@ -1,9 +1,9 @@
--- `reporting::counting::gap_between` meets its contract. Assumes nothing.
+-- `damage::judging::gap_between` meets its contract. Assumes nothing.
 use mathlib.Core.Path.{refl}
 use borrow.Author.Tests.{eq-eqb, ne-eqb}
 use native.Mathlib.Omega.{arith}
-use Rattle.reporting.proofs.counting.gap_between.Statement.{statement}
-use Rattle.reporting.proofs.counting.gap_between.Tie as tie
+use Rattle.damage.proofs.judging.gap_between.Statement.{statement}
+use Rattle.damage.proofs.judging.gap_between.Tie as tie
 
 returns : tie.Need-returns
 returns c = (rw (eq-eqb _ _ (c .if1 .taken)) refl, omega arith)
