@@ -3,21 +3,21 @@ use Prim.Native.Nat.{ℕ, _+_, _-_, _≤_}
 use native.Mathlib.Omega.{arith}
 use mathlib.Core.Path.{_≡_, sym, ap, _∙_}
 use mathlib.Core.List.{List, _++_}
-use lib.Dec.{ltb}
 use lib.ListN.{length, take, drop, take-append-drop}
 use lib.Seq.{length-take-le, take-take, take-add, drop-at}
 use Rattle.lines.proofs.Putting.{puts-whole}
 use Rattle.printout.specs.declared.Went.{Went}
 use Rattle.printout.specs.Printed.{Between}
 use Rattle.printout.specs.Stepping.{betweenIn}
+use Rattle.feeding.specs.declared.Fed.{Fed}
 use Rattle.feeding.specs.Feeding.{ReadOn}
 use Rattle.passing.specs.Passing.{Told, Passed}
 use Rattle.account.specs.Turning.{Turned}
 
 -- what was read stands behind what was pending
-read-behind : (have : ℕ) (old : List ℕ) (n : ℕ) (new : List ℕ) → ReadOn have old n new → take have old ++ drop have (take n new) ≡ take n new
-read-behind have old n new r =
-    ap (λ (x : List ℕ). x ++ drop have (take n new)) (sym (take-take have n new (r .more) ∙ r .kept)) ∙ take-append-drop have (take n new)
+read-behind : (have : ℕ) (old : List ℕ) (f : Fed) (new : List ℕ) → ReadOn have old f new → take have old ++ drop have (take (f .have) new) ≡ take (f .have) new
+read-behind have old f new r =
+    ap (λ (x : List ℕ). x ++ drop have (take (f .have) new)) (sym (take-take have (f .have) new (r .more) ∙ r .kept)) ∙ take-append-drop have (take (f .have) new)
 
 -- what stands behind the octets passed
 behind-passed : (used n : ℕ) (s : List ℕ) → used ≤ n → n ≤ length s → drop used (take n s) ≡ take (n - used) (drop used s)
@@ -26,29 +26,30 @@ behind-passed used n s u h =
     let l : length (take used s) ≡ used = length-take-le used s (omega (arith, u, h)) in
     ap (λ (k : ℕ). drop used (take k s)) (sym e) ∙ ap (drop used) (take-add used (n - used) s) ∙ drop-at (take used s) (take (n - used) (drop used s)) used l
 
-module _ (b : Between) (have : ℕ) (old : List ℕ) (n : ℕ) (mid : List ℕ) (r : ReadOn have old n mid) (w : Went) (marks elapsed sizes out₀ out : List ℕ)
-    (p : Passed b (take n mid) (ltb n (length mid)) w marks elapsed sizes out₀ out) where
-  mid-long : length (take n mid) ≡ n
-  mid-long = length-take-le n mid (r .within)
+module _ (b : Between) (have : ℕ) (old : List ℕ) (f : Fed) (mid : List ℕ) (r : ReadOn have old f mid) (w : Went) (marks elapsed sizes out₀ out : List ℕ)
+    (p : Passed b (take (f .have) mid) (f .ended) w marks elapsed sizes out₀ out) where
+  mid-long : length (take (f .have) mid) ≡ f .have
+  mid-long = length-take-le (f .have) mid (r .within)
 
-  pub passed-in : w .used ≤ n
+  pub passed-in : w .used ≤ f .have
   passed-in = let u = p .used-in in let l = mid-long in omega (arith, u, l)
 
-  pub down-in : w .used + (n - w .used) ≤ length mid
+  pub down-in : w .used + (f .have - w .used) ≤ length mid
   down-in = let u = passed-in in let i = r .within in omega (arith, u, i)
 
-  module _ (new : List ℕ) (same : length new ≡ length mid) (moved : take (n - w .used) new ≡ take (n - w .used) (drop (w .used) mid)) where
-    all-told : Told b (take have old ++ drop have (take n mid)) (ltb (length (take have old ++ drop have (take n mid))) (length new)) (take (w .at) out) (w .stops)
-        (betweenIn (w .going) marks elapsed sizes) (take (n - w .used) new)
-    all-told =
-        rw (read-behind have old n mid r, mid-long, same, moved, puts-whole (p .puts), ← behind-passed (w .used) n mid passed-in (r .within)) (p .told)
+  module _ (new : List ℕ) (same : length new ≡ length mid) (moved : take (f .have - w .used) new ≡ take (f .have - w .used) (drop (w .used) mid)) where
+    all-told : Told b (take have old ++ drop have (take (f .have) mid)) (f .ended) (take (w .at) out) (w .stops) (betweenIn (w .going) marks elapsed sizes)
+        (take (f .have - w .used) new)
+    all-told = rw (read-behind have old f mid r, moved, puts-whole (p .puts), ← behind-passed (w .used) (f .have) mid passed-in (r .within)) (p .told)
 
-    pub turn-done : Turned b (take have old) (record { going = w .going; have = n - w .used; at = w .at; over = w .stops }) marks elapsed sizes new out
+    pub turn-done : Turned b (take have old)
+        (record { going = w .going; have = f .have - w .used; at = w .at; over = w .stops; ended = f .ended; failed = f .failed }) marks elapsed sizes new out
     turn-done =
         let i = r .within in
         record {
-          got = drop have (take n mid);
+          got = drop have (take (f .have) mid);
           told = all-told;
+          apart = r .apart;
           at-in = p .at-in;
           turns = record { ready = p .ready; within = omega (arith, i, same) };
         }

@@ -1,1 +1,2 @@
 pub mod MovedDown
+pub mod ReadBehind

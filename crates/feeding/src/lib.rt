@@ -1,21 +1,99 @@
 // A buffer that is fed from standard input: octets read behind those that are left, and those moved to its front.
-use io::read_full;
+use libc::EAGAIN;
+use libc::EINTR;
 use libc::STDIN_FILENO;
 ghost use mathlib.Core.Path.{_≡_};
+ghost use mathlib.Core.Bool.{true, false};
 ghost use Prim.Native.Nat.{_+_, _≤_};
 ghost use lib.ListN.{length, take, drop};
 ghost use Rattle.io.specs.Counts.{Counts};
 ghost use Rattle.feeding.specs.Feeding.{ReadOn};
 
-// Reads on behind the octets that are there, and answers how many are there then.
-pub fn read_on(input: &mut [u8], have: usize) -> usize
+// What reading came to: how many octets are there then, and whether the input ends behind them or a read failed there.
+pub struct Fed {
+    pub have: usize,
+    pub ended: bool,
+    pub failed: bool,
+}
+
+// Whether a read that failed is to be tried again: a signal came first, or a descriptor that does not wait had nothing yet. Pauses
+// then: no call that waits for a descriptor is declared.
+fn try_again() -> bool {
+    let error = os::errno();
+    if error == EINTR {
+        return true;
+    }
+    if error == EAGAIN {
+        pausing::pause();
+        return true;
+    }
+    false
+}
+
+// What a read's answer says of the octets that are there after it.
+fn fed_by(have: usize, answer: isize) -> Fed
+    ensures { λ r. ⌜ (r .have ≡ have) × (r .failed ≡ true → r .ended ≡ false) ⌝ }
+{
+    if answer < 0 {
+        let again = try_again();
+        return Fed {
+            have: have,
+            ended: false,
+            failed: !again,
+        };
+    }
+    Fed {
+        have: have,
+        ended: answer == 0,
+        failed: false,
+    }
+}
+
+// One read behind the octets that are there.
+fn read_once(input: &mut [u8], have: usize) -> Fed
     requires { ⌜ have ≤ length (now input) ⌝ }
-    ensures { λ r. ⌜ Counts r (now (input .exit)) ⌝ }
     ensures { λ r. ⌜ ReadOn have (now (input .entry)) r (now (input .exit)) ⌝ }
 {
     let behind = &mut input[have..];
-    let got = read_full(STDIN_FILENO, behind);
-    have + got
+    let answer = libc::read(STDIN_FILENO, behind);
+    let got = io::count(answer, behind);
+    fed_by(have + got, answer)
+}
+
+// How many reads may follow: none where the buffer is full, the input has ended or a read failed.
+fn reads_after(reads: u64, f: Fed, room: usize) -> u64
+    ensures { λ r. ⌜ r ≤ reads ⌝ }
+{
+    if f.ended {
+        return 0;
+    }
+    if f.failed {
+        return 0;
+    }
+    if f.have == room {
+        return 0;
+    }
+    reads
+}
+
+// Reads on behind the octets that are there until the buffer is full, the input ends or a read fails. A read that failed for now
+// is tried again. The reads are counted down from a number that no run uses up.
+pub fn read_on(input: &mut [u8], have: usize) -> Fed
+    requires { ⌜ have ≤ length (now input) ⌝ }
+    ensures { λ r. ⌜ Counts (r .have) (now (input .exit)) ⌝ }
+    ensures { λ r. ⌜ ReadOn have (now (input .entry)) r (now (input .exit)) ⌝ }
+{
+    let mut f = Fed {
+        have: have,
+        ended: false,
+        failed: false,
+    };
+    let mut reads = reads_after(u64::MAX, f, input.len());
+    while reads > 0 {
+        f = read_once(input, f.have);
+        reads = reads_after(reads - 1, f, input.len());
+    }
+    f
 }
 
 // Moves so many octets from a place on to the front.

@@ -142,7 +142,8 @@ fn turn(
     requires { ⌜ Lent (now lengths) (now room) (now text) ⌝ }
     ensures { λ r. ⌜ r .have ≤ length (now (input .exit)) ⌝ }
 {
-    let n = read_on(input, have);
+    let fed = read_on(input, have);
+    let n = fed.have;
     let passed = pass(&input[..n], lengths, room, text, again);
     let used = passed.used;
     move_down(input, used, n - used);

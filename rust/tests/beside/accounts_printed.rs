@@ -22,7 +22,7 @@ fn repository() -> PathBuf {
     Path::new(env!("CARGO_MANIFEST_DIR")).join("..")
 }
 
-fn program() -> PathBuf {
+pub fn program() -> PathBuf {
     let program = repository().join("target/bin/account");
     assert!(program.exists(), "the program is not there: run `rt check account` in the repository's root first");
     program
@@ -59,7 +59,7 @@ fn printed(input: &[u8]) -> Vec<u8> {
     printed_of_pieces([input].into_iter())
 }
 
-fn plainly_printed(mut input: &[u8]) -> Vec<u8> {
+pub fn plainly_printed(mut input: &[u8]) -> Vec<u8> {
     let mut text = Vec::new();
     account::account(&mut input, &mut text).expect("a slice and a list do not fail");
     text
@@ -260,7 +260,7 @@ fn small_pieces_through_a_pipe() {
 }
 
 /// Waits for the program, and ends it where it does not end by itself.
-fn ends(child: &mut Child) -> bool {
+pub fn ends(child: &mut Child) -> bool {
     let start = Instant::now();
     while start.elapsed() < Duration::from_secs(10) {
         if child.try_wait().expect("the program's state").is_some() {

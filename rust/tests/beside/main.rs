@@ -26,6 +26,7 @@ mod ticks;
 #[path = "../../peers/writing.rs"]
 mod writing;
 
+mod accounts_cut_off;
 mod accounts_printed;
 mod checks_alike;
 mod clock_alike;

@@ -50,10 +50,13 @@ turn-requires c κs =
     c .before .before .before .before .before .before .loop .inv .turns
 
 slice-reshare-prefix-write-all : tie.Need-slice-reshare-prefix-write-all Inv-loop μ-loop
-slice-reshare-prefix-write-all c = c .before .before .before .before .before .before .before .before .before .before .turn .ensures .at-in
+slice-reshare-prefix-write-all c = c .before .before .before .before .before .before .before .before .before .before .before .turn .ensures .at-in
 
 slice-aggregate-write-all : tie.Need-slice-aggregate-write-all Inv-loop μ-loop
-slice-aggregate-write-all c = sym (length-take-le _ _ (c .before .before .before .before .before .before .before .before .before .before .before .turn .ensures .at-in))
+slice-aggregate-write-all c = sym (length-take-le _ _ (c .before .before .before .before .before .before .before .before .before .before .before .before .turn .ensures .at-in))
+
+tell-cut-requires : tie.Need-tell-cut-requires Inv-loop μ-loop
+tell-cut-requires c κs = search needs
 
 write-all-requires : tie.Need-write-all-requires Inv-loop μ-loop
 write-all-requires c κs = search needs
@@ -69,7 +72,7 @@ loop-less c = let l = c .turns-after .ensures in omega (arith, l)
 
 loop-again : tie.Need-loop-again Inv-loop μ-loop
 loop-again c =
-    let t = c .before .before .before .before .before .before .before .before .before .before .before .before .before .before in
+    let t = c .before .before .before .before .before .before .before .before .before .before .before .before .before .before .before in
     let i = t .before .before .before .before .before .before .before .loop .inv in
     let k = t .turn .kept in
     record {
@@ -110,6 +113,7 @@ run-spec =
     empty-span-requires
     loop-holds
     turn-requires
+    tell-cut-requires
     slice-reshare-prefix-write-all
     slice-aggregate-write-all
     write-all-requires

@@ -8,7 +8,7 @@ use Rattle.account.proofs.turn.Statement.{statement}
 use Rattle.account.proofs.turn.Tie as tie
 
 -- no more is passed than was read, and what is left is in the buffer
-passed : (c : tie.After-pass) → c .pass .result .used ≤ c .before .before .before .before .before .before .before .before .read-on .result
+passed : (c : tie.After-pass) → c .pass .result .used ≤ c .before .before .before .before .before .before .before .before .read-on .result .have
 passed c = passed-in _ _ _ _ _ (c .before .before .before .before .before .before .before .before .read-on .ensures .1) _ _ _ _ _ _ (c .pass .ensures .0)
 
 read-on-requires : tie.Need-read-on-requires
@@ -31,8 +31,8 @@ move-down-requires c κs =
     let w = c .before .before .before .before .before .before .before .before .before .before in
     down-in _ _ _ _ _ (w .before .before .before .before .before .before .before .before .read-on .ensures .1) _ _ _ _ _ _ (w .pass .ensures .0)
 
-sub-t15 : tie.Need-sub-t15
-sub-t15 c = passed (c .before .before .before .before .before .before .before .before .before .before .before .before .before)
+sub-t28 : tie.Need-sub-t28
+sub-t28 c = passed (c .before .before .before .before .before .before .before .before .before .before .before .before .before)
 
 same-length : tie.Need-same-length
 same-length c = search needs
@@ -65,7 +65,7 @@ turn-spec =
     pass-requires
     sub-move-down
     move-down-requires
-    sub-t15
+    sub-t28
     same-length
     same-length-2
     same-length-3

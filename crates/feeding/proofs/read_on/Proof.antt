@@ -1,52 +1,62 @@
--- `feeding::read_on` meets its contract. Assumes nothing.
-use Prim.Native.Nat.{_+_, _-_, _≤_}
-use mathlib.Core.Path.{sym}
+-- `feeding::read_on` meets its contract: each read stands behind those before it. Assumes nothing.
+use mathlib.Core.Path.{_≡_, refl, sym, _∙_}
 use lib.ListN.{length}
 use lib.Seq.{length-take-le}
-use borrow.Rule.Slice.PartMut.{take-put}
 use native.Mathlib.Omega.{arith}
 use borrow.Author.Needs.{needs}
+use Rattle.feeding.specs.Feeding.{ReadOn}
+use Rattle.feeding.proofs.ReadBehind.{none-read, read-twice}
 use Rattle.feeding.proofs.read_on.Statement.{statement}
 use Rattle.feeding.proofs.read_on.Tie as tie
 
-sub-behind : tie.Need-sub-behind
-sub-behind c = search needs
+abbrev Inv-loop : tie.InvT-loop
+Inv-loop input₀ have f₀ reads₀ input f reads = ReadOn have input₀ f input × (length input ≡ length input₀)
 
-part-behind-start : tie.Need-part-behind-start
-part-behind-start c = search needs
+abbrev μ-loop : tie.MeasureT-loop
+μ-loop input₀ have f₀ reads₀ input f reads = reads
 
-part-behind-end : tie.Need-part-behind-end
-part-behind-end c = search needs
+reads-after-requires : tie.Need-reads-after-requires Inv-loop μ-loop
+reads-after-requires c κs = search needs
 
-read-full-requires : tie.Need-read-full-requires
-read-full-requires c κs = search needs
+loop-holds : tie.Need-loop-holds Inv-loop μ-loop
+loop-holds c = (none-read _ _ (search needs), refl)
 
-add-result : tie.Need-add-result
-add-result c = search needs
+read-once-requires : tie.Need-read-once-requires Inv-loop μ-loop
+read-once-requires c κs = search needs
 
-same-length : tie.Need-same-length
-same-length c = search needs
+sub-reads-after : tie.Need-sub-reads-after Inv-loop μ-loop
+sub-reads-after c = search needs
 
-returns : tie.Need-returns
-returns c =
-    let a = c .before .before .before .before .before in
-    let h : a .args .have + c .before .before .read-full .result ≤ length (a .args .input .now) = omega arith in (
-      (search needs, sym (length-take-le _ _ (search needs))),
-      record {
-        more = omega arith;
-        within = search needs;
-        kept = take-put (a .args .have) (length (a .args .input .now) - a .args .have) (a .args .input .now) (c .before .before .read-full .last .1 .0) (a .pre);
-      },
-    )
+reads-after-requires-2 : tie.Need-reads-after-requires-2 Inv-loop μ-loop
+reads-after-requires-2 c κs = search needs
+
+loop-less : tie.Need-loop-less Inv-loop μ-loop
+loop-less c = let l = c .reads-after2 .ensures in omega (arith, l)
+
+loop-again : tie.Need-loop-again Inv-loop μ-loop
+loop-again c =
+    let r = c .before .before .before .read-once in
+    let i = c .before .before .before .before .before .before .loop .inv in
+    (read-twice _ _ _ _ _ _ (i .0) (r .ensures), r .kept .0 ∙ i .1)
+
+same-length : tie.Need-same-length Inv-loop μ-loop
+same-length c = c .before .loop .inv .1
+
+returns : tie.Need-returns Inv-loop μ-loop
+returns c = let i = c .before .loop .inv .0 in ((i .within, sym (length-take-le _ _ (i .within))), i)
 
 pub read-on-spec : {M : Type 1} → statement M
 read-on-spec =
     tie.close
     (tie.spec
-    sub-behind
-    part-behind-start
-    part-behind-end
-    read-full-requires
-    add-result
+    Inv-loop
+    μ-loop
+    reads-after-requires
+    loop-holds
+    read-once-requires
+    sub-reads-after
+    reads-after-requires-2
+    loop-less
+    loop-again
     same-length
     returns)

@@ -1,0 +1,115 @@
+//! The account program where a read or a write fails, where nothing is there to read yet, and with an argument.
+
+use crate::accounts_printed::{ends, plainly_printed, program};
+use crate::items;
+use quimdoral::Key;
+use std::fs::{File, OpenOptions};
+use std::io::Write;
+use std::os::fd::OwnedFd;
+use std::os::unix::net::UnixStream;
+use std::process::{Command, Output, Stdio};
+use std::thread::sleep;
+use std::time::Duration;
+
+const KEY: Key = Key { bearer: 7, period: 3, stamp: 0 };
+const READ_FAILED: &str = "account: the input is cut off, so its last account is not printed; run again with all of it\n";
+const WRITE_FAILED: &str = "account: the rest is not printed; run again with all of the input where its text has room\n";
+
+/// Runs the program to its end with this standard input and output. What it prints has to fit a pipe, which is read at the end.
+fn run(command: &mut Command, input: impl Into<Stdio>, output: impl Into<Stdio>) -> Output {
+    let mut child = command.stdin(input).stdout(output).stderr(Stdio::piped()).spawn().expect("the program starts");
+    assert!(ends(&mut child), "{command:?} does not end");
+    let output = child.wait_with_output().expect("the program's output");
+    assert!(output.status.success(), "{}", output.status);
+    output
+}
+
+fn told(output: &Output) -> String {
+    String::from_utf8(output.stderr.clone()).expect("messages are ASCII")
+}
+
+/// Keys alone, so many of them. Each is 16 octets, and prints an account of its own once the next one is there.
+fn keys(count: u32) -> Vec<u8> {
+    (0..count).flat_map(|bearer| items::key(Key { bearer, ..KEY })).collect()
+}
+
+#[test]
+fn directory_cannot_be_read() {
+    let output = run(&mut Command::new(program()), File::open("/").expect("the root"), Stdio::piped());
+    assert_eq!(told(&output), format!("account: standard input cannot be read: Is a directory\n{READ_FAILED}"));
+    assert!(output.stdout.is_empty());
+}
+
+/// A peer that goes with something unread resets the connection: what it sent is read first, and then a read fails. The program
+/// prints the front of the text, as far as the longest item would be there, and not its last account.
+#[test]
+fn read_that_fails_behind_octets() {
+    for count in [0, 1, 100, 700] {
+        let (mut ours, theirs) = UnixStream::pair().expect("two sockets");
+        let input = keys(count);
+        (&theirs).write_all(b"unread").expect("the socket takes it");
+        ours.write_all(&input).expect("the socket takes the input");
+        drop(ours);
+        let output = run(&mut Command::new(program()), OwnedFd::from(theirs), Stdio::piped());
+        assert_eq!(told(&output), format!("account: standard input cannot be read: Connection reset by peer\n{READ_FAILED}"));
+        let whole = plainly_printed(&input);
+        assert!(whole.starts_with(&output.stdout), "{count} keys: what is printed is not the text's front");
+        let last = format!("sequence {} 3 0 open", count.saturating_sub(1));
+        assert!(!String::from_utf8_lossy(&output.stdout).contains(&last), "{count} keys: the last account is printed");
+        assert_eq!(output.stdout.is_empty(), count < 700, "{count} keys");
+    }
+}
+
+/// A descriptor that does not wait, on which nothing is there for a while: the input has not ended.
+#[test]
+fn nothing_to_read_yet() {
+    let (mut ours, theirs) = UnixStream::pair().expect("two sockets");
+    theirs.set_nonblocking(true).expect("a socket that does not wait");
+    let mut command = Command::new(program());
+    command.stdin(OwnedFd::from(theirs)).stdout(Stdio::piped()).stderr(Stdio::piped());
+    let mut child = command.spawn().expect("the program starts");
+    let input = keys(2_000);
+    for piece in input.chunks(input.len() / 3) {
+        sleep(Duration::from_millis(50));
+        assert!(child.try_wait().expect("the program's state").is_none(), "the program takes nothing yet for the end");
+        ours.write_all(piece).expect("the socket takes the input");
+    }
+    sleep(Duration::from_millis(50));
+    drop(ours);
+    let output = child.wait_with_output().expect("the program's output");
+    assert_eq!(told(&output), "");
+    assert!(output.stdout == plainly_printed(&input));
+}
+
+#[test]
+fn output_without_room() {
+    let (mut ours, theirs) = UnixStream::pair().expect("two sockets");
+    ours.write_all(&keys(10)).expect("the socket takes the input");
+    drop(ours);
+    let full = OpenOptions::new().write(true).open("/dev/full").expect("a device that is always full");
+    let output = run(&mut Command::new(program()), OwnedFd::from(theirs), full);
+    assert_eq!(told(&output), format!("account: standard output cannot be written: No space left on device\n{WRITE_FAILED}"));
+}
+
+#[test]
+fn output_that_is_closed() {
+    let (mut ours, theirs) = UnixStream::pair().expect("two sockets");
+    ours.write_all(&keys(10)).expect("the socket takes the input");
+    drop(ours);
+    let mut closed = Command::new("sh");
+    closed.args(["-c", "exec \"$0\" >&-"]).arg(program());
+    let output = run(&mut closed, OwnedFd::from(theirs), Stdio::piped());
+    assert_eq!(told(&output), format!("account: standard output cannot be written: Bad file descriptor\n{WRITE_FAILED}"));
+}
+
+/// The program takes no argument, and does not wait for an input then.
+#[test]
+fn argument_gives_the_usage() {
+    let (ours, theirs) = UnixStream::pair().expect("two sockets");
+    let output = run(Command::new(program()).arg("--help"), OwnedFd::from(theirs), Stdio::piped());
+    let usage = "usage: account < ITEMS > ACCOUNTS\n\
+                 It takes no argument: it reads items from standard input and prints accounts on standard output.\n";
+    assert_eq!(told(&output), usage);
+    assert!(output.stdout.is_empty());
+    drop(ours);
+}
