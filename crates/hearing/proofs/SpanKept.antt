@@ -5,11 +5,10 @@ use mathlib.Core.Logic.{_⊎_, ⊎-elim}
 use mathlib.Core.Bool.{true, false}
 use mathlib.Core.List.{List}
 use native.Mathlib.Omega.{arith}
-use lib.Dec.{ltb, leb}
+use lib.Dec.{leb}
 use lib.ListN.{length, set, length-set}
 use lib.Seq.{getD-set-other}
-use borrow.Author.Tests.{ne-eqb, ltb-true, ltb-false, leb-true, leb-false}
-use Rattle.fields.specs.Choice.{_when_otherwise_}
+use borrow.Author.Tests.{ne-eqb, leb-true, leb-false}
 use Rattle.fields.proofs.Tests.{either}
 use Rattle.units.specs.Refusals.{refusing}
 use Rattle.frame.specs.declared.DataPdu.{DataPdu}
@@ -25,41 +24,22 @@ use Rattle.hearing.specs.declared.contradicting.Span.{Span}
 use Rattle.hearing.specs.declared.following.Following.{Following}
 use Rattle.hearing.specs.Following.{withPlace, spanAfter, followed, Follows}
 
--- the first place is not above, the end not below
-lower-is : (k first : ℕ) → ((k when ltb k first otherwise first) ≤ k) × ((k when ltb k first otherwise first) ≤ first)
-lower-is k first =
-    ⊎-elim (λ (t : ltb k first ≡ true). let p = ltb-true k first t in rw t (omega arith, omega arith))
-    (λ (t : ltb k first ≡ false). let p = ltb-false k first t in rw t (omega arith, omega arith))
-    (either (ltb k first))
-
-higher-is : (k end : ℕ) → (k < (k + 1 when leb end k otherwise end)) × (end ≤ (k + 1 when leb end k otherwise end))
-higher-is k end =
-    ⊎-elim (λ (t : leb end k ≡ true). let p = leb-true end k t in rw t (omega arith, omega arith))
-    (λ (t : leb end k ≡ false). let p = leb-false end k t in rw t (omega arith, omega arith))
-    (either (leb end k))
-
-higher-in : (k end n : ℕ) → k < n → end ≤ n → (k + 1 when leb end k otherwise end) ≤ n
-higher-in k end n lt le =
-    ⊎-elim (λ (t : leb end k ≡ true). rw t (omega arith)) (λ (t : leb end k ≡ false). rw t le) (either (leb end k))
-
 -- a mark set at place k
 pub wider-before : (marks : List ℕ) (s : Span) (k : ℕ) → NoneBefore marks (s .first) → NoneBefore (set marks k 1) (withPlace s k .first)
 wider-before marks s k o =
     record {
       none = λ j lt one.
-          let q = lower-is k (s .first) in
-          let same = getD-set-other marks k j 1 0 (λ e. omega (arith, e, lt, q .0)) in
-          o .none j (omega (arith, lt, q .1)) (sym same ∙ one);
+          let same = getD-set-other marks k j 1 0 (λ e. omega (arith, e, lt)) in
+          o .none j (omega (arith, lt)) (sym same ∙ one);
     }
 
 pub wider-from : (marks : List ℕ) (s : Span) (k : ℕ) → k < length marks → NoneFrom marks (s .end) → NoneFrom (set marks k 1) (withPlace s k .end)
 wider-from marks s k lt o =
     record {
-      inside = let l = length-set marks k 1 in let p = higher-in k (s .end) (length marks) lt (o .inside) in omega (arith, l, p);
+      inside = omega (arith, length-set marks k 1, lt, o .inside);
       none = λ j le one.
-          let q = higher-is k (s .end) in
-          let same = getD-set-other marks k j 1 0 (λ e. omega (arith, e, le, q .0)) in
-          o .none j (omega (arith, le, q .1)) (sym same ∙ one);
+          let same = getD-set-other marks k j 1 0 (λ e. omega (arith, e, le)) in
+          o .none j (omega (arith, le)) (sym same ∙ one);
     }
 
 -- a data PDU is taken, or leaves the record as it was

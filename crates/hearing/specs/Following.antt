@@ -1,12 +1,10 @@
 -- What goes on beside a record that is known to be undamaged: the places in which packets were heard, kept up frame by frame, and what
 -- hearing the next frame promises. Assumes nothing.
-use Prim.Native.Nat.{ℕ, _+_, _≤_, _<_}
+use Prim.Native.Nat.{ℕ, _+_, _≤_, _<_, min, max}
 use mathlib.Core.Path.{_≡_}
 use mathlib.Core.Logic.{_⊎_}
 use mathlib.Core.List.{List}
-use lib.Dec.{ltb, leb}
 use lib.ListN.{length, getD}
-use Rattle.fields.specs.Choice.{_when_otherwise_}
 use Rattle.reception.specs.declared.Taken.{Taken}
 use Rattle.reception.specs.declared.Taken.the-variants.{Done, Refused}
 use Rattle.reception.specs.declared.Taking.{Taking}
@@ -17,7 +15,7 @@ use Rattle.hearing.specs.declared.following.Following.{Following}
 
 -- the span with place k in it
 abbrev pub withPlace : Span → ℕ → Span
-withPlace s k = record { first = k when ltb k (s .first) otherwise s .first; end = k + 1 when leb (s .end) k otherwise s .end }
+withPlace s k = record { first = min k (s .first); end = max (k + 1) (s .end) }
 
 -- a span changes only by a packet that is taken
 abbrev pub spanAfter : Taken → Span → ℕ → Span

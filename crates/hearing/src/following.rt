@@ -2,10 +2,8 @@
 // functions alone. What is kept beside the record makes the cost of a frame in order the same at every capacity.
 ghost use mathlib.Core.Path.{_≡_};
 ghost use mathlib.Core.Bool.{false};
-ghost use Prim.Native.Nat.{_+_, _≤_, _<_};
-ghost use lib.Dec.{ltb, leb};
+ghost use Prim.Native.Nat.{_+_, _<_, min, max};
 ghost use lib.ListN.{length};
-ghost use Rattle.fields.specs.Choice.{_when_otherwise_};
 ghost use Rattle.reception.specs.Damage.{Matched};
 ghost use Rattle.reception.specs.Neighbours.{NoneBefore, NoneFrom};
 ghost use Rattle.reception.specs.Hearing.{keptIn, takenOf, damagedKept, hearPacket, hearClosing, hearFrame};
@@ -39,19 +37,19 @@ pub fn empty_span(capacity: usize) -> Span
 }
 
 // The lower of two places.
-fn lower(k: usize, first: usize) -> usize
-    ensures { λ r. ⌜ r ≡ (k when ltb k first otherwise first) ⌝ }
+pub fn lower(a: usize, b: usize) -> usize
+    ensures { λ r. ⌜ r ≡ min a b ⌝ }
 {
-    if k < first {
-        return k;
+    if a < b {
+        return a;
     }
-    first
+    b
 }
 
 // The end after place k.
 fn higher(k: usize, end: usize) -> usize
     requires { ⌜ k < 65536 ⌝ }
-    ensures { λ r. ⌜ r ≡ (k + 1 when leb end k otherwise end) ⌝ }
+    ensures { λ r. ⌜ r ≡ max (k + 1) end ⌝ }
 {
     if end <= k {
         return k + 1;

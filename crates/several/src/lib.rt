@@ -3,6 +3,7 @@
 use damage::lists_differ;
 use hearing::following::empty_span;
 use hearing::following::hear_next;
+use hearing::following::lower;
 use hearing::taking::clear;
 use hearing::taking::open_head;
 use hearing::taking::refused;
@@ -40,17 +41,7 @@ fn place_of(x: u32) -> usize
     x as usize
 }
 
-// Where a part that begins at a place begins in n octets.
-fn begin_in(from: usize, n: usize) -> usize
-    ensures { λ r. ⌜ r ≡ min from n ⌝ }
-{
-    if from < n {
-        return from;
-    }
-    n
-}
-
-// Where it ends: not before it begins, and not behind the octets.
+// Where a part of n octets ends: not before it begins, and not behind the octets.
 fn end_in(begin: usize, end: usize, n: usize) -> usize
     requires { ⌜ begin ≤ n ⌝ }
     ensures { λ r. ⌜ (begin ≤ r) × (r ≤ n) × (r - begin ≡ min (end - begin) (n - begin)) ⌝ }
@@ -92,7 +83,7 @@ fn hear_frames(
     while i < ends.len() {
         let next = i + 1;
         let end = place_of(ends[i]);
-        let begin = begin_in(from, octets.len());
+        let begin = lower(from, octets.len());
         let part = &octets[begin..end_in(begin, end, octets.len())];
         let t = hear_next(head, span, marks, elapsed, sizes, bearer, period, part);
         let answer = t.answer;

@@ -39,8 +39,8 @@ shared-slice-read-place-of c = search needs
 place-of-requires : tie.Need-place-of-requires Inv-loop μ-loop
 place-of-requires c κs = search needs
 
-begin-in-requires : tie.Need-begin-in-requires Inv-loop μ-loop
-begin-in-requires c κs = search needs
+lower-requires : tie.Need-lower-requires Inv-loop μ-loop
+lower-requires c κs = search needs
 
 end-in-requires : tie.Need-end-in-requires Inv-loop μ-loop
 end-in-requires c κs = search needs
@@ -76,7 +76,7 @@ loop-again c =
     let b = e .before in
     let o = b .before in
     let t = o .before .before in
-    one-more-at _ _ _ _ _ _ _ _ _ _ _ _ _ _ _ (t .before .loop .inv) (t .loop-test .taken) _ (o .place-of .ensures) _ (part-is _ _ _ _ _ (b .begin-in .ensures) (e .end-in .ensures .2)) _ _ _ _ (h .hear-next .ensures) _ (n .number-of .ensures) (h .hear-next .kept .1 .1 .0) (h .hear-next .kept .1 .1 .1 .0) (h .hear-next .kept .1 .1 .1 .1 .0)
+    one-more-at _ _ _ _ _ _ _ _ _ _ _ _ _ _ _ (t .before .loop .inv) (t .loop-test .taken) _ (o .place-of .ensures) _ (part-is _ _ _ _ _ (b .lower .ensures) (e .end-in .ensures .2)) _ _ _ _ (h .hear-next .ensures) _ (n .number-of .ensures) (h .hear-next .kept .1 .1 .0) (h .hear-next .kept .1 .1 .1 .0) (h .hear-next .kept .1 .1 .1 .1 .0)
 
 same-length : tie.Need-same-length Inv-loop μ-loop
 same-length c = c .before .loop .inv .marks-long
@@ -105,7 +105,7 @@ hear-frames-spec =
     mul-place-of
     shared-slice-read-place-of
     place-of-requires
-    begin-in-requires
+    lower-requires
     end-in-requires
     sub-part
     part-part-start
