@@ -14,6 +14,7 @@ use crate::taking::take_packet;
 use frame::ClosingPdu;
 use frame::DataPdu;
 use frame::Read;
+use frame::sizes::DATA_HEAD;
 use reception::Head;
 use reception::Taken;
 use units::Refusal;
@@ -182,7 +183,7 @@ pub fn hear_next(
             bearer,
             period,
             d,
-            &frame[11..],
+            &frame[DATA_HEAD..],
         ),
         Read::Closing(c) => next_closing(h, span, marks, elapsed, sizes, bearer, period, c),
         Read::ClosingWithLengths(c) => next_closing(

@@ -8,6 +8,7 @@ use damage::lists_differ;
 use frame::ClosingPdu;
 use frame::DataPdu;
 use frame::Read;
+use frame::sizes::DATA_HEAD;
 use reception::Head;
 use reception::Taken;
 use reception::Taking;
@@ -139,7 +140,16 @@ pub fn hear(
             answer: Taken::Refused(r),
             head: h,
         },
-        Read::Data(d) => hear_data(h, marks, elapsed, sizes, bearer, period, d, &frame[11..]),
+        Read::Data(d) => hear_data(
+            h,
+            marks,
+            elapsed,
+            sizes,
+            bearer,
+            period,
+            d,
+            &frame[DATA_HEAD..],
+        ),
         Read::Closing(c) => hear_closing(h, marks, elapsed, sizes, bearer, period, c),
         Read::ClosingWithLengths(c) => hear_closing(h, marks, elapsed, sizes, bearer, period, c),
     }

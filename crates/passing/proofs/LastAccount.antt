@@ -16,7 +16,8 @@ use Rattle.printout.specs.declared.Going.{Going}
 use Rattle.printout.specs.declared.Went.{Went}
 use Rattle.printout.specs.Printed.{Between, mostText, accountBefore}
 use Rattle.printout.specs.Stepping.{betweenIn, Ready}
-use Rattle.passing.specs.Passing.{goesOn, longestItem, Told, Passed, Waits}
+use Rattle.items.specs.Items.{longestItem}
+use Rattle.passing.specs.Passing.{goesOn, Told, Passed, Waits}
 use Rattle.passing.proofs.Telling.{told-then, told-last}
 use Rattle.passing.proofs.OneMore.{puts-within}
 

@@ -15,14 +15,14 @@ use Rattle.fields.proofs.Choosing.{past}
 use Rattle.lines.specs.Text.{Puts}
 use Rattle.lines.proofs.Putting.{puts-none, puts-then}
 use Rattle.items.specs.declared.Item.the-variants.{Cut}
-use Rattle.items.specs.Items.{itemOf, sizeOf}
+use Rattle.items.specs.Items.{longestItem, itemOf, sizeOf}
 use Rattle.items.proofs.Enough.{never-cut, size-there}
 use Rattle.printout.specs.declared.Going.{Going}
 use Rattle.printout.specs.declared.Went.{Went}
 use Rattle.printout.specs.Printed.{Between, mostText, stepOf, usedBy}
 use Rattle.printout.specs.Stepping.{betweenIn, Ready, Steps}
 use Rattle.printout.proofs.WholeText.{takes-some}
-use Rattle.passing.specs.Passing.{goesOn, longestItem, Told, Passed}
+use Rattle.passing.specs.Passing.{goesOn, Told, Passed}
 use Rattle.passing.proofs.Telling.{told-nothing, told-then, told-item, told-over}
 
 -- what is known where the next item is passed

@@ -8,15 +8,11 @@ use lib.Dec.{ltb, leb}
 use lib.ListN.{length, drop}
 use Rattle.fields.specs.Choice.{_when_otherwise_}
 use Rattle.lines.specs.Text.{Puts}
-use Rattle.items.specs.Items.{mostBody}
+use Rattle.items.specs.Items.{longestItem}
 use Rattle.printout.specs.declared.Going.{Going}
 use Rattle.printout.specs.declared.Went.{Went}
 use Rattle.printout.specs.Printed.{Between, mostText, textFrom}
 use Rattle.printout.specs.Stepping.{betweenIn, Ready}
-
--- the most octets of an item: length, kind and the longest body
-abbrev pub longestItem : ℕ
-longestItem = 4 + mostBody
 
 -- whether the next item can be passed: none stopped the program, what it prints has room, and it cannot be cut unless the input is
 unfoldable pub goesOn : ℕ → Bool → ℕ → Bool → Bool

@@ -1,4 +1,5 @@
 // Items one after another, from the front of what was read: as long as an item cannot be cut there, and what it prints has room.
+use items::LONGEST_ITEM;
 use printout::Going;
 use printout::PLACES;
 use printout::Went;
@@ -17,9 +18,6 @@ ghost use Rattle.passing.specs.Passing.{goesOn, Passed, Waits};
 
 // The most octets that one item prints, an account: a gap may stand at each place and behind the last.
 const MOST_TEXT: usize = SEQUENCE_LINE + FIGURE_LINES + GAP_LINE * (PLACES + 1) + END_LINE;
-
-// The least octets among which the first item is never cut.
-const LONGEST_ITEM: usize = 8196;
 
 // Whether the next item can be passed.
 fn goes_on(rest: usize, ended: bool, room: usize, stops: bool) -> bool
