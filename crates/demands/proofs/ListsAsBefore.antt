@@ -30,8 +30,7 @@ use Rattle.reception.specs.declared.Taken.{Taken}
 use Rattle.reception.specs.declared.Taken.the-variants.{Done as TakenDone, Refused as NotTaken}
 use Rattle.reception.specs.Hearing.{Kept, Outcome, takenPaper}
 use Rattle.reception.specs.Joining.{JoinOutcome, joinedPaper}
-use Rattle.reception.specs.Reporting.{Gap, gapsOf, gapsAfter, reportRecord, roomOf}
-use Rattle.reception.specs.Several.{numbersAfter}
+use Rattle.reception.specs.Reporting.{Gap, gapsAfter, reportRecord, roomOf}
 use Rattle.numbers.specs.Answers.{inOne}
 use Rattle.numbers_frames.specs.Reading.{ReadOut}
 use Rattle.numbers_sender.specs.Senders.{turnedState, sentState}

@@ -1,6 +1,6 @@
 -- How the answers of a sender's calls meet the promises. Assumes nothing.
 use Prim.Native.Nat.{ℕ, _+_, _≤_, _<_}
-use mathlib.Core.Path.{_≡_, refl, sym, ap, _∙_}
+use mathlib.Core.Path.{_≡_, refl, _∙_}
 use mathlib.Core.Bool.{false, not}
 use mathlib.Core.List.{List}
 use native.Mathlib.Omega.{arith}
@@ -10,14 +10,12 @@ use borrow.Author.Tests.{lt-ltb, le-ltb, ltb-false}
 use Rattle.units.specs.declared.Refusal.{Refusal}
 use Rattle.units.specs.Limits.{lastStamp, mostPayload, mostInSequence, mostPeriodPackets, mostPeriodOctets}
 use Rattle.units.specs.Refusals.{noRoom, senderDamaged}
-use Rattle.fields.specs.Runs.{front}
 use Rattle.fields.proofs.Tests.{or-false}
 use Rattle.frame.specs.declared.Written.{Written}
 use Rattle.frame.specs.declared.Written.the-variants.{Done, Refused}
 use Rattle.frame.specs.Counts.{listWrong}
 use Rattle.frame.specs.Layout.{filled}
-use Rattle.frame.specs.Paper.{CountPaper, writtenPaper}
-use Rattle.frame.specs.Writing.{after}
+use Rattle.frame.specs.Paper.{writtenPaper}
 use Rattle.frame.proofs.OnePaper.{written-known}
 use Rattle.sender.specs.declared.Sender.{Sender}
 use Rattle.sender.specs.declared.Dispatch.{Dispatch}
@@ -28,7 +26,7 @@ use Rattle.sender.specs.State.{damaged, isOpen, freshSender}
 use Rattle.sender.specs.Calls.{dataCall, closeCall, closeWithCall, turnedPaper, Turns, Sends}
 use Rattle.sender.proofs.OnePaper.{turned-known}
 use Rattle.numbers.specs.Answers.{inOne}
-use Rattle.numbers_state.specs.States.{stateOf, withState}
+use Rattle.numbers_state.specs.States.{withState}
 use Rattle.numbers_sender.specs.Senders.{turnedState, sentState, MakesFresh, TurnsState, SendsState}
 use Rattle.numbers.proofs.InOne.{Few, lengths-few}
 use Rattle.fields.proofs.Choosing.{tested}

@@ -1,5 +1,4 @@
 // Frames: reading, lengths, and writing from given fields.
-ghost use mathlib.Core.Path.{_≡_};
 ghost use lib.ListN.{length};
 ghost use Rattle.frame.specs.Paper.{readPaper};
 ghost use Rattle.frame.specs.Reading.{readFrame};
