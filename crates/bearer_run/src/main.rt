@@ -24,39 +24,51 @@ fn both_of(s: Sender) -> Both {
     }
 }
 
-// What is out of turn, and a sequence that is closed by a Type 0 frame.
-fn first_sequence(before: Both) -> Both {
-    let payload = [7u8; 4096];
+// What is out of turn before a sequence and in it.
+fn out_of_turn(before: Both) -> Both {
     let mut both = data(b"data before open", before, b"abc");
     both = close(b"close before open", both);
     both = open(b"open 60000", both, 60000);
     both = open(b"open 100", both, 100);
     both = open(b"open again", both, 101);
-    both = new_period(b"new period while open", both);
-    both = data(b"data abc", both, b"abc");
+    new_period(b"new period while open", both)
+}
+
+// Frames of the sequence, among them one that has no room and one that is too long.
+fn frames(before: Both) -> Both {
+    let payload = [7u8; 4096];
+    let mut both = data(b"data abc", before, b"abc");
     both = data(b"data none", both, b"");
     both = data_no_room(b"data hello, no room", both, b"hello");
     both = data(b"data of 4096", both, &payload);
-    both = data(b"data hello", both, b"hello");
-    both = close_no_room(b"close, no room", both);
-    both = close(b"close", both);
-    open(b"open 100", both, 100)
+    data(b"data hello", both, b"hello")
 }
 
-// A sequence that is closed with its lengths, and the next period.
-fn with_lengths(before: Both) -> Both {
+// The sequence is closed by a Type 0 frame, and the next one has a later stamp.
+fn closed_plainly(before: Both) -> Both {
+    let mut both = close_no_room(b"close, no room", before);
+    both = close(b"close", both);
+    both = open(b"open 100", both, 100);
+    both = open(b"open 101", both, 101);
+    both = data(b"data x", both, b"x");
+    data(b"data yz", both, b"yz")
+}
+
+// The sequence is closed with its lengths.
+fn closed_with_lengths(before: Both) -> Both {
     let other = [1u16, 1];
     let right = [1u16, 2];
-    let mut both = open(b"open 101", before, 101);
-    both = data(b"data x", both, b"x");
-    both = data(b"data yz", both, b"yz");
-    both = close_with(b"close with lengths 1 1", both, &other);
+    let mut both = close_with(b"close with lengths 1 1", before, &other);
     both = close_with_no_room(b"close with lengths 1 2, no room", both, &right);
     both = close_with(b"close with lengths 1 2", both, &right);
-    both = close_with(b"close with lengths again", both, &right);
-    both = new_period(b"new period", both);
+    close_with(b"close with lengths again", both, &right)
+}
+
+// The next period, with a sequence that has no data.
+fn next_period(before: Both) {
+    let mut both = new_period(b"new period", before);
     both = open(b"open 0", both, 0);
-    close(b"close without data", both)
+    close(b"close without data", both);
 }
 
 fn damaged() {
@@ -75,8 +87,11 @@ fn damaged() {
 }
 
 fn main() {
-    let both = both_of(sender::fresh());
-    let next = first_sequence(both);
-    with_lengths(next);
+    let mut both = both_of(sender::fresh());
+    both = out_of_turn(both);
+    both = frames(both);
+    both = closed_plainly(both);
+    both = closed_with_lengths(both);
+    next_period(both);
     damaged();
 }
