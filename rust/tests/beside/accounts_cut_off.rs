@@ -81,6 +81,27 @@ fn nothing_to_read_yet() {
     assert!(output.stdout == plainly_printed(&input));
 }
 
+/// A read that may wait for so long only, and is stopped meanwhile, is interrupted: the input has not ended.
+#[test]
+fn read_that_is_interrupted() {
+    let (mut ours, theirs) = UnixStream::pair().expect("two sockets");
+    theirs.set_read_timeout(Some(Duration::from_secs(60))).expect("a socket that waits so long");
+    let mut command = Command::new(program());
+    command.stdin(OwnedFd::from(theirs)).stdout(Stdio::piped()).stderr(Stdio::piped());
+    let child = command.spawn().expect("the program starts");
+    for signal in ["-STOP", "-CONT", "-STOP", "-CONT"] {
+        sleep(Duration::from_millis(50));
+        let sent = Command::new("sh").args(["-c", "kill \"$0\" \"$1\"", signal, &child.id().to_string()]).status();
+        assert!(sent.expect("the shell starts").success(), "the program takes an interruption for the end");
+    }
+    let input = keys(100);
+    ours.write_all(&input).expect("the socket takes the input");
+    drop(ours);
+    let output = child.wait_with_output().expect("the program's output");
+    assert_eq!(told(&output), "");
+    assert!(output.stdout == plainly_printed(&input));
+}
+
 #[test]
 fn output_without_room() {
     let (mut ours, theirs) = UnixStream::pair().expect("two sockets");
