@@ -1,5 +1,5 @@
-// What every layer counts and refuses with. Packets and octets are types of their own, so that no line can add one to the
-// other. The house limits and the refusal numbers stand here by name, once for code; specs/ has them once for definitions.
+// What every layer counts and refuses with. Packets and octets are types of their own, so that neither is taken for the other.
+// The house limits and the refusal numbers stand here by name, once for code; specs/ has them once for definitions.
 pub mod limits;
 pub mod refusals;
 
