@@ -9,7 +9,9 @@ fn say(text: &[u8]) {
     io::write_all(STDOUT_FILENO, text);
 }
 
-fn say_number(n: u64) {
+// A text and the number behind it, to the line's end.
+fn say_number(text: &[u8], n: u64) {
+    say(text);
     io::print_decimal(STDOUT_FILENO, n);
     say(b"\n");
 }
@@ -18,22 +20,13 @@ fn tell_read(name: &[u8], frame: &[u8]) {
     say(name);
     let read = reader::read_frame(frame);
     match read {
-        Read::Data(d) => {
-            say(b": data, payload ");
-            say_number(d.length.0);
-        }
-        Read::Closing(c) => {
-            say(b": closing, packets ");
-            say_number(c.number.0 as u64);
-        }
-        Read::ClosingWithLengths(c) => {
-            say(b": closing with lengths, packets ");
-            say_number(c.number.0 as u64);
-        }
-        Read::Refused(r) => {
-            say(b": refused ");
-            say_number(r.number as u64);
-        }
+        Read::Data(d) => say_number(b": data, payload ", d.length.0),
+        Read::Closing(c) => say_number(b": closing, packets ", c.number.0 as u64),
+        Read::ClosingWithLengths(c) => say_number(
+            b": closing with lengths, packets ",
+            c.number.0 as u64,
+        ),
+        Read::Refused(r) => say_number(b": refused ", r.number as u64),
     }
 }
 
@@ -43,16 +36,12 @@ fn write_and_read(name: &[u8], payload: &[u8], out: &mut [u8]) {
     say(name);
     match written {
         Written::Done(n) => {
-            say(b": written ");
-            say_number(n as u64);
+            say_number(b": written ", n as u64);
             if n <= out.len() {
                 tell_read(b"J, read back", &out[..n]);
             }
         }
-        Written::Refused(r) => {
-            say(b": refused ");
-            say_number(r.number as u64);
-        }
+        Written::Refused(r) => say_number(b": refused ", r.number as u64),
     }
 }
 

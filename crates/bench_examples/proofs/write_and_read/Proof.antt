@@ -14,11 +14,8 @@ say-requires c κs = search needs
 enum-known-written : tie.Need-enum-known-written
 enum-known-written c = search needs
 
-slice-aggregate-say : tie.Need-slice-aggregate-say
-slice-aggregate-say c = search needs
-
-say-requires-2 : tie.Need-say-requires-2
-say-requires-2 c κs = search needs
+slice-aggregate-say-number : tie.Need-slice-aggregate-say-number
+slice-aggregate-say-number c = search needs
 
 say-number-requires : tie.Need-say-number-requires
 say-number-requires c κs = search needs
@@ -38,11 +35,8 @@ tell-read-requires c κs = search needs
 enum-known-written-2 : tie.Need-enum-known-written-2
 enum-known-written-2 c = search needs
 
-slice-aggregate-say-2 : tie.Need-slice-aggregate-say-2
-slice-aggregate-say-2 c = search needs
-
-say-requires-3 : tie.Need-say-requires-3
-say-requires-3 c κs = search needs
+slice-aggregate-say-number-2 : tie.Need-slice-aggregate-say-number-2
+slice-aggregate-say-number-2 c = search needs
 
 cast-say-number : tie.Need-cast-say-number
 cast-say-number c = search needs
@@ -75,16 +69,14 @@ write-and-read-spec =
     write-data-requires
     say-requires
     enum-known-written
-    slice-aggregate-say
-    say-requires-2
+    slice-aggregate-say-number
     say-number-requires
     slice-aggregate-tell-read
     slice-reshare-prefix-tell-read
     slice-aggregate-tell-read-2
     tell-read-requires
     enum-known-written-2
-    slice-aggregate-say-2
-    say-requires-3
+    slice-aggregate-say-number-2
     cast-say-number
     say-number-requires-2
     same-length
