@@ -3,11 +3,12 @@ use mathlib.Core.Path.{_≡_, sym, ap, _∙_}
 use mathlib.Core.Bool.{false}
 use lib.ListN.{length}
 use denote.Ref.{now}
+use Rattle.frame.specs.declared.Read.{Read}
 use Rattle.frame.specs.Reading.{readFrame}
 use Rattle.frame.proofs.OnePaper.{read-known}
 use Rattle.frame.proofs.Payload.{part-payload}
 use Rattle.frame.proofs.Said.{HandedOn, data-said, handed-on}
-use Rattle.reception.specs.Hearing.{listsDiffer}
+use Rattle.reception.specs.Hearing.{keptIn, listsDiffer, hearRead, hearFrame}
 use Rattle.hearing.proofs.Answered.{refused-as}
 use Rattle.reception.proofs.KeptAsHeld.{lists-matched}
 use Rattle.hearing.proofs.Judged.{same-outcome, frame-unmatched, frame-read, unread, closing-only}
@@ -22,6 +23,13 @@ even c = let e = c .before in sym (e .before .lists-differ .ensures) ∙ e .if1 
 
 told : (c : tie.After-read-frame) → readFrame (now (c .before .before .before .before .before .before .before .args .frame)) ≡ c .read-frame .result
 told c = sym (read-known (c .read-frame .result) _ (c .read-frame .ensures))
+
+-- so the frame is heard as that
+heard-as : (c : tie.After-read-frame) (x : Read) → c .read-frame .result ≡ x
+    → let a = c .before .before .before .before .before .before .before .args in
+    hearFrame (keptIn (a .h) (now (a .marks)) (now (a .elapsed)) (now (a .sizes))) (a .bearer) (a .period) (now (a .frame))
+    ≡ hearRead (keptIn (a .h) (now (a .marks)) (now (a .elapsed)) (now (a .sizes))) (a .bearer) (a .period) x
+heard-as c x e = frame-read _ _ _ _ x (even c) (told c ∙ e)
 
 lists-differ-requires : tie.Need-lists-differ-requires
 lists-differ-requires c κs = search needs
@@ -80,7 +88,7 @@ returns-2 : tie.Need-returns-2
 returns-2 c =
     let r = c .before in
     let f = r .before .before in
-    same-outcome (frame-read _ _ _ _ _ (even f) (told f ∙ r .read .given .1)) (unread _ _ _ _)
+    same-outcome (heard-as f _ (r .read .given .1)) (unread _ _ _ _)
 
 same-length : tie.Need-same-length
 same-length c = search needs
@@ -96,7 +104,7 @@ returns-3 c =
     let w = c .before .before .before .before .before .before in
     let r = w .before .before .before .before .before .before in
     let f = r .before .before in
-    same-outcome (frame-read _ _ _ _ _ (even f) (told f ∙ r .read2 .given .1)) (w .hear-data .ensures)
+    same-outcome (heard-as f _ (r .read2 .given .1)) (w .hear-data .ensures)
 
 same-length-4 : tie.Need-same-length-4
 same-length-4 c = search needs
@@ -111,7 +119,7 @@ returns-4 : tie.Need-returns-4
 returns-4 c =
     let r = c .before .before .before .before .before in
     let f = r .before .before in
-    same-outcome (frame-read _ _ _ _ _ (even f) (told f ∙ r .read3 .given .1)) (c .hear-closing .ensures)
+    same-outcome (heard-as f _ (r .read3 .given .1)) (c .hear-closing .ensures)
 
 same-length-7 : tie.Need-same-length-7
 same-length-7 c = search needs
@@ -126,7 +134,7 @@ returns-5 : tie.Need-returns-5
 returns-5 c =
     let r = c .before .before .before .before .before in
     let f = r .before .before in
-    same-outcome (frame-read _ _ _ _ _ (even f) (told f ∙ r .read4 .given .1) ∙ closing-only _ _ _ _) (c .hear-closing2 .ensures)
+    same-outcome (heard-as f _ (r .read4 .given .1) ∙ closing-only _ _ _ _) (c .hear-closing2 .ensures)
 
 pub hear-spec : {M : Type 1} → statement M
 hear-spec =

@@ -2,7 +2,9 @@
 use mathlib.Core.Path.{_≡_, sym, ap, _∙_}
 use lib.ListN.{length}
 use denote.Ref.{now}
+use Rattle.frame.specs.declared.Read.{Read}
 use Rattle.frame.specs.Reading.{readFrame}
+use Rattle.reception.specs.Hearing.{keptIn, hearRead, hearFrame}
 use Rattle.frame.proofs.OnePaper.{read-known}
 use Rattle.frame.proofs.Payload.{part-payload}
 use Rattle.frame.proofs.Said.{HandedOn, data-said, handed-on}
@@ -17,6 +19,13 @@ use Rattle.hearing.proofs.following.hear_next.Tie as tie
 -- what the frame was read as
 told : (c : tie.After-read-frame) → readFrame (now (c .before .before .before .before .before .args .frame)) ≡ c .read-frame .result
 told c = sym (read-known (c .read-frame .result) _ (c .read-frame .ensures))
+
+-- so the frame is heard as that
+heard-as : (c : tie.After-read-frame) (x : Read) → c .read-frame .result ≡ x
+    → let a = c .before .before .before .before .before .args in
+    hearFrame (keptIn (a .h) (now (a .marks)) (now (a .elapsed)) (now (a .sizes))) (a .bearer) (a .period) (now (a .frame))
+    ≡ hearRead (keptIn (a .h) (now (a .marks)) (now (a .elapsed)) (now (a .sizes))) (a .bearer) (a .period) x
+heard-as c x e = frame-read _ _ _ _ x (matched-lists _ _ _ (c .before .before .before .before .before .pre .0)) (told c ∙ e)
 
 read-frame-requires : tie.Need-read-frame-requires
 read-frame-requires c κs = search needs
@@ -66,7 +75,7 @@ returns c =
     let r = c .before in
     let f = r .before .before in
     let p = f .before .before .before .before .before .pre in
-    same-follows (frame-read _ _ _ _ _ (matched-lists _ _ _ (p .0)) (told f ∙ r .read .given .1)) (follows-still _ _ _ _ _ _ (unread _ _ _ _) (p .1 .0) (p .1 .1 .0))
+    same-follows (heard-as f _ (r .read .given .1)) (follows-still _ _ _ _ _ _ (unread _ _ _ _) (p .1 .0) (p .1 .1 .0))
 
 same-length : tie.Need-same-length
 same-length c = search needs
@@ -83,7 +92,7 @@ returns-2 c =
     let r = w .before .before .before .before .before .before in
     let f = r .before .before in
     let p = f .before .before .before .before .before .pre in
-    same-follows (frame-read _ _ _ _ _ (matched-lists _ _ _ (p .0)) (told f ∙ r .read2 .given .1) ∙ packet-judged _ _ _ _ (p .1 .1 .1)) (w .next-packet .ensures)
+    same-follows (heard-as f _ (r .read2 .given .1) ∙ packet-judged _ _ _ _ (p .1 .1 .1)) (w .next-packet .ensures)
 
 same-length-4 : tie.Need-same-length-4
 same-length-4 c = search needs
@@ -99,7 +108,7 @@ returns-3 c =
     let r = c .before .before .before .before .before in
     let f = r .before .before in
     let p = f .before .before .before .before .before .pre in
-    same-follows (frame-read _ _ _ _ _ (matched-lists _ _ _ (p .0)) (told f ∙ r .read3 .given .1) ∙ closing-judged _ _ _ _ (p .1 .1 .1)) (c .next-closing .ensures)
+    same-follows (heard-as f _ (r .read3 .given .1) ∙ closing-judged _ _ _ _ (p .1 .1 .1)) (c .next-closing .ensures)
 
 same-length-7 : tie.Need-same-length-7
 same-length-7 c = search needs
@@ -115,7 +124,7 @@ returns-4 c =
     let r = c .before .before .before .before .before in
     let f = r .before .before in
     let p = f .before .before .before .before .before .pre in
-    same-follows (frame-read _ _ _ _ _ (matched-lists _ _ _ (p .0)) (told f ∙ r .read4 .given .1) ∙ closing-only _ _ _ _ ∙ closing-judged _ _ _ _ (p .1 .1 .1)) (c .next-closing2 .ensures)
+    same-follows (heard-as f _ (r .read4 .given .1) ∙ closing-only _ _ _ _ ∙ closing-judged _ _ _ _ (p .1 .1 .1)) (c .next-closing2 .ensures)
 
 pub hear-next-spec : {M : Type 1} → statement M
 hear-next-spec =
