@@ -4,6 +4,7 @@ use frame::DataPdu;
 use frame::Listed;
 use frame::Read;
 use frame::Written;
+use frame::sizes::DATA_HEAD;
 use writer::write_closing;
 use writer::write_closing_with_lengths;
 use writer::write_data;
@@ -12,6 +13,7 @@ ghost use Prim.Native.Nat.{_≤_};
 ghost use lib.ListN.{length};
 ghost use Rattle.io.specs.Counts.{Counts};
 ghost use Rattle.frame.specs.Paper.{listedPaper, writtenPaper};
+ghost use Rattle.frame.specs.Sizes.{dataHead};
 
 // How many lengths were listed, none where listing was refused.
 fn count_of(listed: Listed) -> usize
@@ -60,10 +62,10 @@ fn write_lengths_again(c: ClosingPdu, frame: &[u8], lengths: &mut [u16], room: &
 
 // A data PDU, with the payload that stands in the frame.
 fn write_data_again(d: DataPdu, frame: &[u8], room: &mut [u8]) -> usize
-    requires { ⌜ 11 ≤ length (now frame) ⌝ }
+    requires { ⌜ dataHead ≤ length (now frame) ⌝ }
     ensures { λ r. ⌜ Counts r (now (room .exit)) ⌝ }
 {
-    let payload = &frame[11..];
+    let payload = &frame[DATA_HEAD..];
     let written = write_data(d.stamp, d.number, d.elapsed, payload, room);
     size_of(written)
 }

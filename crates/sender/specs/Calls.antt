@@ -12,6 +12,7 @@ use Rattle.fields.specs.Choice.{_when_otherwise_}
 use Rattle.frame.specs.declared.Written.the-variants.{Done, Refused}
 use Rattle.frame.specs.Counts.{listWrong}
 use Rattle.frame.specs.Layout.{filled}
+use Rattle.frame.specs.Sizes.{dataHead, closingSize, lengthsHead}
 use Rattle.frame.specs.Paper.{writtenPaper, CountPaper}
 use Rattle.frame.specs.Writing.{after}
 use Rattle.sender.specs.declared.Phase.the-variants.{Open, Closed}
@@ -80,8 +81,8 @@ dataCall s l room =
     keeps s sequenceFull when leb mostInSequence (s .number .0) otherwise
     keeps s periodFull when leb mostPeriodPackets (s .packets .0) otherwise
     keeps s octetsFull when ltb mostPeriodOctets (s .octets .0 + l) otherwise
-    keeps s noRoom when ltb room (11 + l) otherwise
-    record { answer = Done (11 + l); sender = advanced s l }
+    keeps s noRoom when ltb room (dataHead + l) otherwise
+    record { answer = Done (dataHead + l); sender = advanced s l }
 
 -- "Closing sets number and elapsed octets to zero and keeps stamp and totals"
 abbrev pub closedSender : Sender → Sender
@@ -93,8 +94,8 @@ unfoldable pub closeCall : Sender → ℕ → Dispatch
 closeCall s room =
     keeps s senderDamaged when damaged s otherwise
     keeps s outOfTurn when not (isOpen (s .phase)) otherwise
-    keeps s noRoom when ltb room 18 otherwise
-    record { answer = Done 18; sender = closedSender s }
+    keeps s noRoom when ltb room closingSize otherwise
+    record { answer = Done closingSize; sender = closedSender s }
 
 -- the same of Type 3, with 22 before 12
 unfoldable pub closeWithCall : Sender → List ℕ → ℕ → Dispatch
@@ -102,8 +103,8 @@ closeWithCall s ls room =
     keeps s senderDamaged when damaged s otherwise
     keeps s outOfTurn when not (isOpen (s .phase)) otherwise
     keeps s lengthsWrong when listWrong ls (s .number .0) (s .elapsed .0) otherwise
-    keeps s noRoom when ltb room (19 + filled (length ls)) otherwise
-    record { answer = Done (19 + filled (length ls)); sender = closedSender s }
+    keeps s noRoom when ltb room (lengthsHead + filled (length ls)) otherwise
+    record { answer = Done (lengthsHead + filled (length ls)); sender = closedSender s }
 
 -- the promise of a call that writes nothing: r is as the definition t says
 pub record Turns (t r : Turning) : Type 0 where

@@ -4,6 +4,7 @@ use Prim.Native.Nat.{ℕ, _+_}
 use mathlib.Core.List.{List, [], _∷_}
 use lib.ListN.{length}
 use Rattle.frame.specs.declared.ClosingPdu.{ClosingPdu}
+use Rattle.frame.specs.Sizes.{dataHead}
 use Rattle.frame.specs.Writing.{dataFrame}
 use Rattle.sender.specs.declared.Phase.the-variants.{Open}
 use Rattle.sender.specs.declared.Sender.{Sender}
@@ -50,10 +51,10 @@ carried s ps =
 -- the sender after a data call for each payload, with room for each frame
 unfoldable pub afterData : Sender → List (List ℕ) → Sender
 afterData s [] = s
-afterData s (p ∷ ps) = afterData (dataCall s (length p) (11 + length p) .sender) ps
+afterData s (p ∷ ps) = afterData (dataCall s (length p) (dataHead + length p) .sender) ps
 
 -- the frames that those calls write: each with the sender's own stamp and counts
 unfoldable pub framesBy : Sender → List (List ℕ) → List (List ℕ)
 framesBy s [] = []
 framesBy s (p ∷ ps) =
-    dataFrame (s .stamp) (s .number .0) (s .elapsed .0) p ∷ framesBy (dataCall s (length p) (11 + length p) .sender) ps
+    dataFrame (s .stamp) (s .number .0) (s .elapsed .0) p ∷ framesBy (dataCall s (length p) (dataHead + length p) .sender) ps

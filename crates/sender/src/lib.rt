@@ -3,6 +3,8 @@
 mod state;
 
 use frame::Written;
+use frame::sizes::CLOSING_SIZE;
+use frame::sizes::DATA_HEAD;
 use state::at_rest;
 use state::closing_of;
 pub use state::fresh;
@@ -130,7 +132,7 @@ pub fn sent(s: Sender, payload: &[u8], out: &mut [u8]) -> Dispatch
     if MOST_PERIOD_OCTETS < s.octets.0 + l {
         return send_refused(s, OCTETS_FULL);
     }
-    if out.len() < 11 + payload.len() {
+    if out.len() < DATA_HEAD + payload.len() {
         return send_refused(s, NO_ROOM);
     }
     let sender = with_packet(s, l);
@@ -150,7 +152,7 @@ pub fn closed(s: Sender, out: &mut [u8]) -> Dispatch
     if !is_open(s) {
         return send_refused(s, OUT_OF_TURN);
     }
-    if out.len() < 18 {
+    if out.len() < CLOSING_SIZE {
         return send_refused(s, NO_ROOM);
     }
     let answer = writer::write_closing(closing_of(s), out);
