@@ -6,7 +6,7 @@ pub fn tell_read_failed() {
     os::fail(b"account: standard input cannot be read");
     write_all(
         STDERR_FILENO,
-        b"account: the input is cut off, so its last account is not printed; run again with all of it\n",
+        b"account: the input is cut off, so its last accounts may be missing; run again with all of it\n",
     );
 }
 

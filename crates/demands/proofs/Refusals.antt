@@ -28,7 +28,7 @@ use Rattle.frame.specs.Reading.{lengthWrong, checkWrong, countsWrong, headerWro
 use Rattle.frame.specs.Writing.{writeData, writeClosing, writeLengths, after}
 use Rattle.reader.specs.Lists.{Lists}
 use Rattle.writer.specs.Promise.{Wrote}
-use Rattle.demands.specs.Demand1.{among, carries, ofReading, ofLengths, ofWritingData, ofWritingClosing, ofWritingLengths, ofStamp, ofDue, Writes}
+use Rattle.demands.specs.Demand1.{among, carries, ofReading, ofLengths, ofWritingData, ofWritingClosing, ofWritingLengths, ofStamp, ofDue, WritesOn}
 
 -- reading
 abbrev ReadCarries : Read → Type 0
@@ -94,7 +94,7 @@ unfolding listedPaper listed
 none-listed (Lengths n) s old e = no-zero e
 none-listed (NotListed r) s old e = refl
 
-pub lists-carry : (s old : List ℕ) (r : Listed) (new : List ℕ) → Lists s old r new → Writes ofLengths (listedPaper r) old new
+pub lists-carry : (s old : List ℕ) (r : Listed) (new : List ℕ) → Lists s old r new → WritesOn ofLengths (listedPaper r) old new
 lists-carry s old r new w = (
   rw (w .says) (listed-carries (readFrame s) (length old) (read-carries s)),
   λ z. w .leaves ∙ none-listed (listLengths (readFrame s) (length old)) s old (sym (ap accepted-of (w .says)) ∙ z),
@@ -110,7 +110,7 @@ none-written (Done n) frame old e = no-zero e
 none-written (NotWritten r) frame old e = refl
 
 pub writes : (numbers : List ℕ) (a : Written) (frame old : List ℕ) (r : Written) (new : List ℕ) → WriteCarries numbers a → Wrote a frame old r new
-    → Writes numbers (writtenPaper r) old new
+    → WritesOn numbers (writtenPaper r) old new
 writes numbers a frame old r new c w = (
   rw (w .says) c,
   λ z. w .leaves ∙ none-written a frame old (sym (ap accepted-of (w .says)) ∙ z),

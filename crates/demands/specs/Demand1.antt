@@ -102,8 +102,8 @@ abbrev pub ofReport : List ℕ  -- "Report: 14, 13, 12"
 ofReport = 14 ∷ 13 ∷ 12 ∷ []
 
 -- what a call that writes a frame answers and leaves: one of its numbers, and refused nothing differs
-abbrev pub Writes : List ℕ → CountPaper → List ℕ → List ℕ → Type 0
-Writes numbers p old new = (carries numbers (p .number) (p .accepted) ≡ true) × (p .accepted ≡ 0 → new ≡ old)
+abbrev pub WritesOn : List ℕ → CountPaper → List ℕ → List ℕ → Type 0
+WritesOn numbers p old new = (carries numbers (p .number) (p .accepted) ≡ true) × (p .accepted ≡ 0 → new ≡ old)
 
 -- what a call of the sender does, with the sender too
 abbrev pub SendsOn : List ℕ → Sender → Dispatch → List ℕ → List ℕ → Type 0
@@ -124,13 +124,13 @@ Leaves numbers old number taken new = (carries numbers number taken ≡ true) ×
 -- the demand, call by call: of any outcome that meets the promise
 pub record Demand1 : Type 0 where
   pub reading : (s : List ℕ) (r : Read) → readPaper r ≡ readPaper (readFrame s) → carries ofReading (readPaper r .number) (readPaper r .kind) ≡ true
-  pub lengths : (s old : List ℕ) (r : Listed) (new : List ℕ) → Lists s old r new → Writes ofLengths (listedPaper r) old new
+  pub lengths : (s old : List ℕ) (r : Listed) (new : List ℕ) → Lists s old r new → WritesOn ofLengths (listedPaper r) old new
   pub writing-data : (stamp n e : ℕ) (p old : List ℕ) (r : Written) (new : List ℕ)
-      → Wrote (writeData stamp n e (length p) (length old)) (dataFrame stamp n e p) old r new → Writes ofWritingData (writtenPaper r) old new
+      → Wrote (writeData stamp n e (length p) (length old)) (dataFrame stamp n e p) old r new → WritesOn ofWritingData (writtenPaper r) old new
   pub writing-closing : (c : ClosingPdu) (old : List ℕ) (r : Written) (new : List ℕ)
-      → Wrote (writeClosing c (length old)) (closingFrame c) old r new → Writes ofWritingClosing (writtenPaper r) old new
+      → Wrote (writeClosing c (length old)) (closingFrame c) old r new → WritesOn ofWritingClosing (writtenPaper r) old new
   pub writing-lengths : (c : ClosingPdu) (ls old : List ℕ) (r : Written) (new : List ℕ)
-      → Wrote (writeLengths c ls (length old)) (lengthsFrame c ls) old r new → Writes ofWritingLengths (writtenPaper r) old new
+      → Wrote (writeLengths c ls (length old)) (lengthsFrame c ls) old r new → WritesOn ofWritingLengths (writtenPaper r) old new
   pub opening : (s : Sender) (stamp : ℕ) (r : Turning) → Turns (openCall s stamp) r → TurnsOn ofOpening s r
   pub renewing : (s : Sender) (r : Turning) → Turns (renewCall s) r → TurnsOn ofNewPeriod s r
   pub sending : (s : Sender) (p old : List ℕ) (r : Dispatch) (new : List ℕ)

@@ -16,6 +16,7 @@ use Rattle.frame.specs.declared.Written.the-variants.{Done}
 use Rattle.frame.specs.Layout.{typeOf, control, headerCheckIn, payloadCheckIn, payloadPart, filled, lengthsOf}
 use Rattle.frame.specs.Paper.{readPaper}
 use Rattle.frame.specs.Reading.{said, readFrame}
+use Rattle.frame.specs.Sizes.{dataHead, longControl, lengthsHead}
 use Rattle.frame.specs.Writing.{writeData, writeClosing, writeLengths, dataFrame, closingFrame, lengthsFrame}
 use Rattle.writer.specs.Promise.{Wrote}
 
@@ -44,7 +45,7 @@ pub record Demand2 : Type 0 where
   -- "Reading what we wrote gives back what went in"
   pub data-back : (stamp n e : ℕ) (p old : List ℕ) (k : ℕ) (new : List ℕ) (r : Read)
       → Wrote (writeData stamp n e (length p) (length old)) (dataFrame stamp n e p) old (Done k) new → ReadAs (take k new) r
-      → (r ≡ Data (dataPdu stamp n e p)) × (drop 11 (take k new) ≡ p)
+      → (r ≡ Data (dataPdu stamp n e p)) × (drop dataHead (take k new) ≡ p)
   pub closing-back : (c : ClosingPdu) (old : List ℕ) (k : ℕ) (new : List ℕ) (r : Read)
       → Wrote (writeClosing c (length old)) (closingFrame c) old (Done k) new → ReadAs (take k new) r → r ≡ Closing c
   pub lengths-back : (c : ClosingPdu) (ls old : List ℕ) (k : ℕ) (new : List ℕ) (r : Read)
@@ -52,12 +53,12 @@ pub record Demand2 : Type 0 where
       → (r ≡ ClosingWithLengths c) × (lengthsOf (take k new) 0 (c .number .0) ≡ ls)
   -- "writing again what was read gives the same octets", in front of memory that has room for them
   pub data-again : (s : List ℕ) (d : DataPdu) (old : List ℕ) (r : Written) (new : List ℕ) → SpareZero s → ReadAs s (Data d) → length s ≤ length old
-      → Wrote (writeData (d .stamp) (d .number .0) (d .elapsed .0) (length (drop 11 s)) (length old)) (dataFrame (d .stamp) (d .number .0) (d .elapsed .0) (drop 11 s)) old r new
+      → Wrote (writeData (d .stamp) (d .number .0) (d .elapsed .0) (length (drop dataHead s)) (length old)) (dataFrame (d .stamp) (d .number .0) (d .elapsed .0) (drop dataHead s)) old r new
       → (r ≡ Done (length s)) × (new ≡ front old s)
-  pub closing-again : (s : List ℕ) (c : ClosingPdu) (old : List ℕ) (r : Written) (new : List ℕ) → SpareZero s → getD s 17 0 % 4 ≡ 0
+  pub closing-again : (s : List ℕ) (c : ClosingPdu) (old : List ℕ) (r : Written) (new : List ℕ) → SpareZero s → getD s longControl 0 % 4 ≡ 0
       → ReadAs s (Closing c) → length s ≤ length old → Wrote (writeClosing c (length old)) (closingFrame c) old r new
       → (r ≡ Done (length s)) × (new ≡ front old s)
-  pub lengths-again : (s : List ℕ) (c : ClosingPdu) (old : List ℕ) (r : Written) (new : List ℕ) → SpareZero s → length s ≡ 19 + filled (c .number .0)
+  pub lengths-again : (s : List ℕ) (c : ClosingPdu) (old : List ℕ) (r : Written) (new : List ℕ) → SpareZero s → length s ≡ lengthsHead + filled (c .number .0)
       → (c .number .0 % 2 ≡ 1 → getD s (18 + filled (c .number .0)) 0 % 16 ≡ 0) → ReadAs s (ClosingWithLengths c) → length s ≤ length old
       → Wrote (writeLengths c (lengthsOf s 0 (c .number .0)) (length old)) (lengthsFrame c (lengthsOf s 0 (c .number .0))) old r new
       → (r ≡ Done (length s)) × (new ≡ front old s)

@@ -2,25 +2,26 @@
 use Prim.Native.Nat.{ℕ, _≤_}
 use native.Mathlib.Omega.{arith}
 use mathlib.Core.Path.{_≡_, refl, sym, ap, _∙_}
-use mathlib.Core.Bool.{true, false, false≢true}
 use mathlib.Core.List.{List}
 use lib.ListN.{length, take}
 use lib.Seq.{take-take}
-use Rattle.feeding.specs.declared.Fed.{Fed}
-use Rattle.feeding.specs.Feeding.{ReadOn}
+use Rattle.feeding.specs.Feeding.{Behind}
 
 -- nothing was read yet
-pub none-read : (have : ℕ) (s : List ℕ) → have ≤ length s → ReadOn have s (record { have = have; ended = false; failed = false }) s
-none-read have s h = record { more = omega arith; within = h; kept = refl; apart = λ (t : false ≡ true). absurd (false≢true t) }
+pub none-read : (have : ℕ) (s : List ℕ) → have ≤ length s → Behind have s have s
+none-read have s h = record { more = omega arith; within = h; kept = refl }
 
 -- what was there before the first read is kept by the next one too
-pub read-twice : (have : ℕ) (old : List ℕ) (f : Fed) (mid : List ℕ) (g : Fed) (new : List ℕ) → ReadOn have old f mid → ReadOn (f .have) mid g new → ReadOn have old g new
-read-twice have old f mid g new p q =
-    let m = p .more in
-    let n = q .more in
+pub read-twice : (have : ℕ) (old : List ℕ) (m : ℕ) (mid : List ℕ) (n : ℕ) (new : List ℕ) → Behind have old m mid → Behind m mid n new → Behind have old n new
+read-twice have old m mid n new p q =
+    let i = p .more in
+    let j = q .more in
     record {
-      more = omega (arith, m, n);
+      more = omega (arith, i, j);
       within = q .within;
-      kept = sym (take-take have (f .have) new m) ∙ ap (take have) (q .kept) ∙ take-take have (f .have) mid m ∙ p .kept;
-      apart = q .apart;
+      kept = sym (take-take have m new i) ∙ ap (take have) (q .kept) ∙ take-take have m mid i ∙ p .kept;
     }
+
+-- told by another name of its number
+pub same-behind : (have : ℕ) (old : List ℕ) (m n : ℕ) (new : List ℕ) → n ≡ m → Behind have old m new → Behind have old n new
+same-behind have old m n new e b = rw e b

@@ -5,9 +5,10 @@ use libc::STDIN_FILENO;
 ghost use mathlib.Core.Path.{_≡_};
 ghost use mathlib.Core.Bool.{true, false};
 ghost use Prim.Native.Nat.{_+_, _≤_};
+ghost use lib.Dec.{ltb};
 ghost use lib.ListN.{length, take, drop};
 ghost use Rattle.io.specs.Counts.{Counts};
-ghost use Rattle.feeding.specs.Feeding.{ReadOn};
+ghost use Rattle.feeding.specs.Feeding.{Behind, ReadOn};
 
 // What reading came to: how many octets are there then, and whether the input ends behind them or a read failed there.
 pub struct Fed {
@@ -30,9 +31,9 @@ fn try_again() -> bool {
     false
 }
 
-// What a read's answer says of the octets that are there after it.
-fn fed_by(have: usize, answer: isize) -> Fed
-    ensures { λ r. ⌜ (r .have ≡ have) × (r .failed ≡ true → r .ended ≡ false) ⌝ }
+// What a read's answer says, by which so many octets were got and so many are there.
+fn fed_by(have: usize, got: usize, answer: isize) -> Fed
+    ensures { λ r. ⌜ (r .have ≡ have) × (r .failed ≡ true → r .ended ≡ false) × (r .ended ≡ true → got ≡ 0) ⌝ }
 {
     if answer < 0 {
         let again = try_again();
@@ -44,7 +45,7 @@ fn fed_by(have: usize, answer: isize) -> Fed
     }
     Fed {
         have: have,
-        ended: answer == 0,
+        ended: got == 0,
         failed: false,
     }
 }
@@ -52,12 +53,12 @@ fn fed_by(have: usize, answer: isize) -> Fed
 // One read behind the octets that are there.
 fn read_once(input: &mut [u8], have: usize) -> Fed
     requires { ⌜ have ≤ length (now input) ⌝ }
-    ensures { λ r. ⌜ ReadOn have (now (input .entry)) r (now (input .exit)) ⌝ }
+    ensures { λ r. ⌜ Behind have (now (input .entry)) (r .have) (now (input .exit)) ⌝ }
 {
     let behind = &mut input[have..];
     let answer = libc::read(STDIN_FILENO, behind);
     let got = io::count(answer, behind);
-    fed_by(have + got, answer)
+    fed_by(have + got, got, answer)
 }
 
 // How many reads may follow: none where the buffer is full, the input has ended or a read failed.
@@ -74,6 +75,33 @@ fn reads_after(reads: u64, f: Fed, room: usize) -> u64
         return 0;
     }
     reads
+}
+
+// What the last read leaves: the buffer full, the input at its end, or a read that failed. Where none of these is so, the reads are
+// used up, which counts as failed.
+fn settled(f: Fed, room: usize) -> Fed
+    requires { ⌜ f .have ≤ room ⌝ }
+    ensures { λ r. ⌜ (r .have ≡ f .have) × (r .failed ≡ false → r .ended ≡ ltb (r .have) room) × (r .failed ≡ true → r .ended ≡ false) ⌝ }
+{
+    if f.have == room {
+        return Fed {
+            have: f.have,
+            ended: false,
+            failed: f.failed,
+        };
+    }
+    if f.failed {
+        return Fed {
+            have: f.have,
+            ended: false,
+            failed: true,
+        };
+    }
+    Fed {
+        have: f.have,
+        ended: f.ended,
+        failed: !f.ended,
+    }
 }
 
 // Reads on behind the octets that are there until the buffer is full, the input ends or a read fails. A read that failed for now
@@ -93,7 +121,7 @@ pub fn read_on(input: &mut [u8], have: usize) -> Fed
         f = read_once(input, f.have);
         reads = reads_after(reads - 1, f, input.len());
     }
-    f
+    settled(f, input.len())
 }
 
 // Moves so many octets from a place on to the front.

@@ -101,8 +101,8 @@ pub fn answered(h: Head, number: u8) -> Taking
 }
 
 // A data PDU by its fields and its payload, whose length is the one that is kept, for a record that some sending explains. Answers 0,
-// or the refusal's number: numbers are handed over in registers, where structs would go through memory. Octets and length do not stand
-// side by side: so they are not fetched by one load of both, which would wait for the two stores that put them there.
+// or the refusal's number: numbers are handed over in registers, where structs would go through memory. The number stands
+// between octets and payload: so octets and length are not fetched by one load of both, which would wait for the stores of each.
 pub fn take_packet(
     h: Head,
     span: Span,

@@ -14,7 +14,7 @@ abbrev pub noHead : Head
 noHead =
     record { bearer = 0; period = 0; stamp = widest; closed = false; count = record { 0 = 0 }; total = record { 0 = 0 } }
 
--- bearer, period, stamp, 1 where closed and 0 where not, the closing's packets, its octets
+-- bearer, period, stamp, 1 where closed and 0 where not, the closing's packets, its octets; fewer than six numbers are no head's
 unfoldable pub headOf : List ℕ → Head
 headOf ns =
     noHead when ltb (length ns) 6 otherwise

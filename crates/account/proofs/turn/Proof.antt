@@ -18,7 +18,7 @@ slice-reshare-prefix-pass : tie.Need-slice-reshare-prefix-pass
 slice-reshare-prefix-pass c = search needs
 
 slice-aggregate-pass : tie.Need-slice-aggregate-pass
-slice-aggregate-pass c = sym (length-take-le _ _ (c .before .before .before .before .before .before .read-on .ensures .1 .within))
+slice-aggregate-pass c = sym (length-take-le _ _ (c .before .before .before .before .before .before .read-on .ensures .1 .behind .within))
 
 pass-requires : tie.Need-pass-requires
 pass-requires c κs = search needs

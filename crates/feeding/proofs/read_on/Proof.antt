@@ -4,13 +4,13 @@ use lib.ListN.{length}
 use lib.Seq.{length-take-le}
 use native.Mathlib.Omega.{arith}
 use borrow.Author.Needs.{needs}
-use Rattle.feeding.specs.Feeding.{ReadOn}
-use Rattle.feeding.proofs.ReadBehind.{none-read, read-twice}
+use Rattle.feeding.specs.Feeding.{Behind, ReadOn}
+use Rattle.feeding.proofs.ReadBehind.{none-read, read-twice, same-behind}
 use Rattle.feeding.proofs.read_on.Statement.{statement}
 use Rattle.feeding.proofs.read_on.Tie as tie
 
 abbrev Inv-loop : tie.InvT-loop
-Inv-loop input₀ have f₀ reads₀ input f reads = ReadOn have input₀ f input × (length input ≡ length input₀)
+Inv-loop input₀ have f₀ reads₀ input f reads = Behind have input₀ (f .have) input × (length input ≡ length input₀)
 
 abbrev μ-loop : tie.MeasureT-loop
 μ-loop input₀ have f₀ reads₀ input f reads = reads
@@ -39,11 +39,17 @@ loop-again c =
     let i = c .before .before .before .before .before .before .loop .inv in
     (read-twice _ _ _ _ _ _ (i .0) (r .ensures), r .kept .0 ∙ i .1)
 
+settled-requires : tie.Need-settled-requires Inv-loop μ-loop
+settled-requires c κs = search needs
+
 same-length : tie.Need-same-length Inv-loop μ-loop
-same-length c = c .before .loop .inv .1
+same-length c = c .before .before .loop .inv .1
 
 returns : tie.Need-returns Inv-loop μ-loop
-returns c = let i = c .before .loop .inv .0 in ((i .within, sym (length-take-le _ _ (i .within))), i)
+returns c =
+    let e = c .settled .ensures in
+    let b = same-behind _ _ _ _ _ (e .0) (c .before .before .loop .inv .0) in
+    ((b .within, sym (length-take-le _ _ (b .within))), record { behind = b; ends = e .1; apart = e .2 })
 
 pub read-on-spec : {M : Type 1} → statement M
 read-on-spec =
@@ -58,5 +64,6 @@ read-on-spec =
     reads-after-requires-2
     loop-less
     loop-again
+    settled-requires
     same-length
     returns)

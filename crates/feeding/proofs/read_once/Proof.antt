@@ -41,7 +41,6 @@ returns c =
       more = omega (arith, n);
       within = search needs;
       kept = take-put (a .args .have) (length (a .args .input .now) - a .args .have) (a .args .input .now) (c .before .before .before .before .before .before .before .read .last .1 .0) (a .pre);
-      apart = e .1;
     }
 
 pub read-once-spec : {M : Type 1} → statement M
