@@ -7,28 +7,47 @@ use std::fs::{File, OpenOptions};
 use std::io::Write;
 use std::os::fd::OwnedFd;
 use std::os::unix::net::UnixStream;
-use std::process::{Command, Output, Stdio};
+use std::process::{Child, Command, Output, Stdio};
 use std::thread::sleep;
 use std::time::Duration;
 
 const KEY: Key = Key { bearer: 7, period: 3, stamp: 0 };
-const READ_FAILED: &str = "account: the input is cut off, so its last account is not printed; run again with all of it\n";
+const READ_FAILED: &str = "account: the input is cut off, so its last accounts may be missing; run again with all of it\n";
 const WRITE_FAILED: &str = "account: the rest is not printed; run again with all of the input where its text has room\n";
 
-/// Runs the program to its end with this standard input and output. What it prints has to fit a pipe, which is read at the end.
-fn run(command: &mut Command, input: impl Into<Stdio>, output: impl Into<Stdio>) -> Output {
-    let mut child = command.stdin(input).stdout(output).stderr(Stdio::piped()).spawn().expect("the program starts");
-    assert!(ends(&mut child), "{command:?} does not end");
+fn spawn(command: &mut Command, input: impl Into<Stdio>, output: impl Into<Stdio>) -> Child {
+    command.stdin(input).stdout(output).stderr(Stdio::piped()).spawn().expect("the program starts")
+}
+
+/// Waits for the program's end, for so long only. What it prints has to fit a pipe, which is read at the end.
+fn ended(mut child: Child) -> Output {
+    assert!(ends(&mut child), "the program does not end");
     let output = child.wait_with_output().expect("the program's output");
     assert!(output.status.success(), "{}", output.status);
     output
+}
+
+/// Runs the program to its end with this standard input and output.
+fn run(command: &mut Command, input: impl Into<Stdio>, output: impl Into<Stdio>) -> Output {
+    ended(spawn(command, input, output))
+}
+
+fn has_ended(child: &mut Child) -> bool {
+    child.try_wait().expect("the program's state").is_some()
+}
+
+/// Stops the program for a while. One command does both, so that nothing that fails here leaves it stopped.
+fn stop_for_a_while(child: &Child) {
+    let script = "kill -STOP \"$0\"; sleep 0.05; kill -CONT \"$0\"";
+    let done = Command::new("sh").args(["-c", script, &child.id().to_string()]).status();
+    assert!(done.expect("the shell starts").success(), "the program does not go on");
 }
 
 fn told(output: &Output) -> String {
     String::from_utf8(output.stderr.clone()).expect("messages are ASCII")
 }
 
-/// Keys alone, so many of them. Each is 16 octets, and prints an account of its own once the next one is there.
+/// Keys alone, so many of them. Each is 14 octets, and prints an account of its own once the next one is there.
 fn keys(count: u32) -> Vec<u8> {
     (0..count).flat_map(|bearer| items::key(Key { bearer, ..KEY })).collect()
 }
@@ -65,18 +84,16 @@ fn read_that_fails_behind_octets() {
 fn nothing_to_read_yet() {
     let (mut ours, theirs) = UnixStream::pair().expect("two sockets");
     theirs.set_nonblocking(true).expect("a socket that does not wait");
-    let mut command = Command::new(program());
-    command.stdin(OwnedFd::from(theirs)).stdout(Stdio::piped()).stderr(Stdio::piped());
-    let mut child = command.spawn().expect("the program starts");
-    let input = keys(2_000);
+    let mut child = spawn(&mut Command::new(program()), OwnedFd::from(theirs), Stdio::piped());
+    let input = keys(600);
     for piece in input.chunks(input.len() / 3) {
         sleep(Duration::from_millis(50));
-        assert!(child.try_wait().expect("the program's state").is_none(), "the program takes nothing yet for the end");
+        assert!(!has_ended(&mut child), "the program takes nothing yet for the end");
         ours.write_all(piece).expect("the socket takes the input");
     }
     sleep(Duration::from_millis(50));
     drop(ours);
-    let output = child.wait_with_output().expect("the program's output");
+    let output = ended(child);
     assert_eq!(told(&output), "");
     assert!(output.stdout == plainly_printed(&input));
 }
@@ -86,18 +103,17 @@ fn nothing_to_read_yet() {
 fn read_that_is_interrupted() {
     let (mut ours, theirs) = UnixStream::pair().expect("two sockets");
     theirs.set_read_timeout(Some(Duration::from_secs(60))).expect("a socket that waits so long");
-    let mut command = Command::new(program());
-    command.stdin(OwnedFd::from(theirs)).stdout(Stdio::piped()).stderr(Stdio::piped());
-    let child = command.spawn().expect("the program starts");
-    for signal in ["-STOP", "-CONT", "-STOP", "-CONT"] {
+    let mut child = spawn(&mut Command::new(program()), OwnedFd::from(theirs), Stdio::piped());
+    for _ in 0..2 {
         sleep(Duration::from_millis(50));
-        let sent = Command::new("sh").args(["-c", "kill \"$0\" \"$1\"", signal, &child.id().to_string()]).status();
-        assert!(sent.expect("the shell starts").success(), "the program takes an interruption for the end");
+        stop_for_a_while(&child);
+        sleep(Duration::from_millis(50));
+        assert!(!has_ended(&mut child), "the program takes an interruption for the end");
     }
     let input = keys(100);
     ours.write_all(&input).expect("the socket takes the input");
     drop(ours);
-    let output = child.wait_with_output().expect("the program's output");
+    let output = ended(child);
     assert_eq!(told(&output), "");
     assert!(output.stdout == plainly_printed(&input));
 }
