@@ -79,6 +79,13 @@ fn read_that_fails_behind_octets() {
     }
 }
 
+/// The program ends, tells nothing, and has printed what all of the input prints.
+fn all_is_printed(child: Child, input: &[u8]) {
+    let output = ended(child);
+    assert_eq!(told(&output), "");
+    assert!(output.stdout == plainly_printed(input));
+}
+
 /// A descriptor that does not wait, on which nothing is there for a while: the input has not ended.
 #[test]
 fn nothing_to_read_yet() {
@@ -93,9 +100,7 @@ fn nothing_to_read_yet() {
     }
     sleep(Duration::from_millis(50));
     drop(ours);
-    let output = ended(child);
-    assert_eq!(told(&output), "");
-    assert!(output.stdout == plainly_printed(&input));
+    all_is_printed(child, &input);
 }
 
 /// A read that may wait for so long only, and is stopped meanwhile, is interrupted: the input has not ended.
@@ -113,9 +118,7 @@ fn read_that_is_interrupted() {
     let input = keys(100);
     ours.write_all(&input).expect("the socket takes the input");
     drop(ours);
-    let output = ended(child);
-    assert_eq!(told(&output), "");
-    assert!(output.stdout == plainly_printed(&input));
+    all_is_printed(child, &input);
 }
 
 #[test]
