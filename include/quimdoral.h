@@ -52,7 +52,7 @@ static inline const uint16_t *quimdoral_lend_const_u16(const uint16_t *list) { r
 static inline const uint32_t *quimdoral_lend_const_u32(const uint32_t *list) { return list ? list : (uint32_t *)quimdoral_nothing(); }
 static inline const uint64_t *quimdoral_lend_const_u64(const uint64_t *list) { return list ? list : (uint64_t *)quimdoral_nothing(); }
 
-/* Refusal numbers. */
+/* Refusal numbers. No function gives a number that is not here. */
 enum {
     QUIMDORAL_TOO_SHORT = 1,           /* frame empty, or shorter than its type's least size */
     QUIMDORAL_TYPE_TWO = 2,            /* Type 2, which M1 does not have */
@@ -72,7 +72,6 @@ enum {
     QUIMDORAL_STAMP_NOT_LATER = 16,    /* stamp not later than the last one of this period */
     QUIMDORAL_SEQUENCE_FULL = 17,      /* 65,535 data PDUs already in the sequence */
     QUIMDORAL_PERIOD_FULL = 18,        /* 16,777,215 packets already in the period */
-    QUIMDORAL_OCTETS_FULL = 19,        /* octet total of the period would pass 2^40 - 1 */
     QUIMDORAL_PAYLOAD_TOO_LONG = 20,   /* payload above 4,095 octets to be written */
     QUIMDORAL_SENDER_DAMAGED = 21,
     QUIMDORAL_LENGTHS_WRONG = 22,      /* lengths for Type 3 are not N values of at most 4,095 with the elapsed octets as sum */
@@ -85,7 +84,6 @@ enum {
 #define QUIMDORAL_MOST_CAPACITY 65535u              /* packet numbers of one record */
 #define QUIMDORAL_LAST_STAMP 59999u                 /* units of 10 ms */
 #define QUIMDORAL_MOST_PERIOD_PACKETS 16777215u
-#define QUIMDORAL_MOST_PERIOD_OCTETS 1099511627775u
 
 /* Octets of a frame: Type 0; Type 1 with a payload of so many octets; Type 3 with so many lengths, as it is written. */
 #define QUIMDORAL_CLOSING_SIZE 18u
@@ -186,7 +184,7 @@ uint8_t quimdoral_sender_fresh(uint64_t *state, size_t state_length);
 uint8_t quimdoral_sender_open(uint64_t *state, size_t state_length, uint32_t stamp);
 
 /* quimdoral_sender_data: sends a data PDU, within a sequence: writes a Type 1 frame in front of `out`, and counts the packet and the octets
- * of `payload`, which is only read. Answers a value: how many octets the frame has. Refuses in this order: 21, 15, 20, 17, 18, 19, 12. */
+ * of `payload`, which is only read. Answers a value: how many octets the frame has. Refuses in this order: 21, 15, 20, 17, 18, 12. */
 uint64_t quimdoral_sender_data(uint64_t *state, size_t state_length, const uint8_t *payload, size_t payload_length,
                                uint8_t *out, size_t out_length);
 

@@ -1,7 +1,7 @@
 //! The sender of document 01 as a plain Rust program would keep it, in the six numbers that the library keeps it in.
 //!
 //! Written from document 01. Of the library, its writer had read `docs/` and the exported functions in `crates/quimdoral`, and none of the
-//! functions that they call.
+//! functions that they call. What request 9 of document 02 took out was taken out by one who had read them.
 #![allow(dead_code)]
 
 use crate::frames::Closing;
@@ -14,7 +14,6 @@ pub const CLOSED: u64 = 2;
 const LAST_STAMP: u64 = 59_999;
 const MOST_IN_SEQUENCE: u64 = 65_535;
 const MOST_IN_PERIOD: u64 = 16_777_215;
-const MOST_OCTETS: u64 = (1 << 40) - 1;
 
 /// Phase, stamp, number, elapsed octets, total packets, total octets. The list may hold anything, and may be too short or longer.
 #[derive(Clone, Debug, PartialEq, Eq)]
@@ -67,16 +66,12 @@ impl State {
         Ok(())
     }
 
-    /// The order is 21, 15, 20, 17, 18, 19, 12. The frame has the counts before the packet.
+    /// The order is document 01's without what request 9 of document 02 took out: 21, 15, 20, 17, 18, 12. The frame has the counts before
+    /// the packet.
     pub fn data(&mut self, payload: &[u8], room: usize) -> Result<Vec<u8>, u8> {
         self.may_turn(&[OPEN])?;
         let (length, number, elapsed) = (payload.len() as u64, self.0[2], self.0[3]);
-        let refusals = [
-            (20, length > 4_095),
-            (17, number == MOST_IN_SEQUENCE),
-            (18, self.0[4] == MOST_IN_PERIOD),
-            (19, self.0[5] + length > MOST_OCTETS),
-        ];
+        let refusals = [(20, length > 4_095), (17, number == MOST_IN_SEQUENCE), (18, self.0[4] == MOST_IN_PERIOD)];
         if let Some((refusal, _)) = refusals.into_iter().find(|&(_, applies)| applies) {
             return Err(refusal);
         }
@@ -84,6 +79,7 @@ impl State {
         for (place, more) in [(2, 1), (3, length), (4, 1), (5, length)] {
             self.0[place] += more;
         }
+        assert!(self.0[5] < 1 << 40, "the period's octets do not fit their field of five octets: {self:?}");
         Ok(frame)
     }
 

@@ -7,6 +7,7 @@ use crate::peers::Noise;
 use crate::records::Written;
 use quimdoral::lent::{Held, Lists};
 use quimdoral::{Key, Refusal};
+use std::fmt;
 
 pub const LONGEST: u64 = 4_095;
 
@@ -224,8 +225,20 @@ pub fn numbered<T>(answer: Result<T, Refusal>) -> Result<T, u8> {
 }
 
 /// How often each answer came, by the refusal's number.
-#[derive(Default, Debug)]
-pub struct Tally(pub [usize; 24]);
+pub struct Tally(pub [usize; 256]);
+
+impl Default for Tally {
+    fn default() -> Tally {
+        Tally([0; 256])
+    }
+}
+
+/// The numbers that came, and how often.
+impl fmt::Debug for Tally {
+    fn fmt(&self, f: &mut fmt::Formatter<'_>) -> fmt::Result {
+        f.debug_map().entries(self.0.iter().enumerate().filter(|&(_, &times)| times > 0)).finish()
+    }
+}
 
 impl Tally {
     pub fn add(&mut self, answer: Result<(), u8>) {

@@ -171,7 +171,7 @@ pub fn sender_open(state: &mut [u64], stamp: u32) -> Result<(), Refusal> {
     of_number(raw::sender_open(state, stamp))
 }
 
-/// Sends a packet, as [`Sender::data`](crate::Sender::data). Refusals, in this order: 21, 15, 20, 17, 18, 19, 12.
+/// Sends a packet, as [`Sender::data`](crate::Sender::data). Refusals, in this order: 21, 15, 20, 17, 18, 12.
 #[inline]
 pub fn sender_data(state: &mut [u64], payload: &[u8], out: &mut [u8]) -> Result<usize, Refusal> {
     of_written(raw::sender_data(state, payload, out))

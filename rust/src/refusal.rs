@@ -13,7 +13,7 @@ use std::fmt;
 /// assert_eq!(refusal.to_string(), "refusal 2: the frame is of Type 2, which M1 does not use");
 /// ```
 ///
-/// Later versions may have more refusals, so a match outside of this crate needs an arm for the rest.
+/// Later versions may have more refusals, or lack one, so a match outside of this crate needs an arm for the rest.
 #[derive(Clone, Copy, Debug, PartialEq, Eq, PartialOrd, Ord, Hash)]
 #[non_exhaustive]
 #[repr(u8)]
@@ -54,8 +54,6 @@ pub enum Refusal {
     SequenceFull = 17,
     /// The period has 16,777,215 packets already.
     PeriodFull = 18,
-    /// The octet total of the period would pass 2^40 - 1.
-    OctetsFull = 19,
     /// The payload to be written is above 4,095 octets.
     PayloadTooLong = 20,
     /// The sender's state is damaged.
@@ -69,12 +67,13 @@ pub enum Refusal {
 use Refusal::*;
 
 impl Refusal {
-    /// All refusals, by rising number from 1 on.
+    /// All refusals, by rising number. A number that a refusal had once is not used again, so numbers may be left out: the refusal of a
+    /// number is found by [`Refusal::from_number`], and not by its place here.
     #[rustfmt::skip]
     pub const ALL: &'static [Refusal] = &[
         TooShort, TypeTwo, TypeUnknown, HeaderCheckWrong, StampTooHigh, SizeWrong, PayloadCheckWrong, CountsImpossible, OtherSequence,
         BeyondCapacity, Contradiction, NoRoom, RecordDamaged, CapacitiesDiffer, OutOfTurn, StampNotLater, SequenceFull, PeriodFull,
-        OctetsFull, PayloadTooLong, SenderDamaged, LengthsWrong, PeriodOver,
+        PayloadTooLong, SenderDamaged, LengthsWrong, PeriodOver,
     ];
 
     /// The number by which reports and other programs name the refusal.
@@ -89,11 +88,11 @@ impl Refusal {
     /// use quimdoral::Refusal;
     /// assert_eq!(Refusal::from_number(1), Some(Refusal::TooShort));
     /// assert!(Refusal::ALL.iter().all(|refusal| Refusal::from_number(refusal.number()) == Some(*refusal)));
-    /// assert_eq!((Refusal::from_number(0), Refusal::from_number(255)), (None, None));
+    /// assert_eq!([0, 19, 255].map(Refusal::from_number), [None; 3]); // no refusal has 19 any more
     /// ```
     #[inline]
     pub fn from_number(number: u8) -> Option<Refusal> {
-        Refusal::ALL.get(usize::from(number).wrapping_sub(1)).copied()
+        Refusal::ALL.iter().copied().find(|refusal| refusal.number() == number)
     }
 
     /// What the refusal means, in plain words and without its number.
@@ -117,7 +116,6 @@ impl Refusal {
             StampNotLater => "the stamp is not later than the last one of this period",
             SequenceFull => "the sequence has 65,535 packets already",
             PeriodFull => "the period has 16,777,215 packets already",
-            OctetsFull => "the octets of the period would pass 2^40 - 1",
             PayloadTooLong => "the payload is above 4,095 octets",
             SenderDamaged => "the sender's state is damaged",
             LengthsWrong => "the lengths are not one of at most 4,095 for each packet, with the elapsed octets as their sum",

@@ -118,13 +118,13 @@ impl Sender {
     }
 
     /// Sends a packet of the sequence that is open: writes a Type 1 frame in front of `out`, and says how many octets it has. Refusals, in
-    /// this order: 21, 15, 20, 17, 18, 19, 12.
+    /// this order: 21, 15, 20, 17, 18, 12.
     #[inline]
     pub fn data(&mut self, payload: &[u8], out: &mut [u8]) -> Result<usize, Refusal> {
         lent::sender_data(&mut self.numbers, payload, out)
     }
 
-    /// The same with the frame in a list of its own. Refusals, in this order: 21, 15, 20, 17, 18, 19.
+    /// The same with the frame in a list of its own. Refusals, in this order: 21, 15, 20, 17, 18.
     pub fn data_to_vec(&mut self, payload: &[u8]) -> Result<Vec<u8>, Refusal> {
         in_vec(data_size(payload), |out| self.data(payload, out))
     }

@@ -9,4 +9,5 @@ pub mod OneTable
 pub mod ReadAndWritten
 pub mod RecordRefusals
 pub mod Refusals
+pub mod RefusalTable
 pub mod SenderRefusals

@@ -3,10 +3,11 @@
 -- function without a `requires`; here stands what any outcome is that meets its promise. Assumes nothing.
 use Prim.Native.Nat.{ℕ}
 use mathlib.Core.Path.{_≡_}
-use mathlib.Core.Bool.{Bool, true, false, cond, _||_}
+use mathlib.Core.Bool.{Bool, true, false, cond, _&&_, _||_}
 use mathlib.Core.List.{List, [], _∷_, _++_}
 use lib.Dec.{eqb}
 use lib.ListN.{length}
+use Rattle.units.specs.Refusals.{refusals}
 use Rattle.clock.specs.declared.Moment.{Moment}
 use Rattle.clock.specs.declared.DueTime.{DueTime}
 use Rattle.clock.specs.Clock.{stampOf, dueAt}
@@ -40,9 +41,10 @@ unfoldable pub among : List ℕ → ℕ → Bool
 among [] n = false
 among (m ∷ ms) n = eqb m n || among ms n
 
--- "A refusal carries its number": a call that took nothing has one of these numbers, and one that did has 0
+-- "A refusal carries its number from the table": a call that took nothing has one of these numbers, which stands in the table, and one that
+-- did has 0
 abbrev pub carries : List ℕ → ℕ → ℕ → Bool
-carries numbers number taken = cond (eqb taken 0) (among numbers number) (eqb number 0)
+carries numbers number taken = cond (eqb taken 0) (among numbers number && among refusals number) (eqb number 0)
 
 -- the refusals of each call, in document 01's order ("Order when several apply")
 abbrev pub ofReading : List ℕ  -- "Reading: empty 1; 2; 3; too short 1; 4; 5; 6; 7; 8"
@@ -69,8 +71,8 @@ ofOpening = 21 ∷ 15 ∷ 5 ∷ 16 ∷ []
 abbrev pub ofNewPeriod : List ℕ  -- "New period: 21, 15"
 ofNewPeriod = 21 ∷ 15 ∷ []
 
-abbrev pub ofData : List ℕ  -- "Data: 21, 15, 20, 17, 18, 19, 12"
-ofData = 21 ∷ 15 ∷ 20 ∷ 17 ∷ 18 ∷ 19 ∷ 12 ∷ []
+abbrev pub ofData : List ℕ  -- document 01's order of "Data", as document 02, request 9, mends it
+ofData = 21 ∷ 15 ∷ 20 ∷ 17 ∷ 18 ∷ 12 ∷ []
 
 -- "Closing: 21, 15, 22 for Type 3, 12"; of Type 0
 abbrev pub ofClosing : List ℕ

@@ -1,4 +1,5 @@
 -- A choice by a test, and a chain of refusals, taken apart from its answer. Assumes nothing.
+use Prim.Native.Nat.{ℕ}
 use mathlib.Core.Path.{_≡_, refl}
 use mathlib.Core.Bool.{Bool, true, false, cond}
 use Rattle.fields.specs.Choice.{_when_otherwise_}
@@ -29,3 +30,18 @@ whichever P a b false p q = q refl
 pub tested : {A : Type 0} (P : A → Type 0) (a b : A) (t : Bool) → (t ≡ true → P a) → (t ≡ false → P b) → P (a when t otherwise b)
 tested P a b true p q = p refl
 tested P a b false p q = q refl
+
+-- two chains with the same first answer and test are the same, if what follows is the same where the test does not hold
+pub same-test : {A : Type 0} (x a b : A) (t : Bool) → (t ≡ false → a ≡ b) → (x when t otherwise a) ≡ (x when t otherwise b)
+same-test x a b true h = refl
+same-test x a b false h = h refl
+
+-- what a chain comes to: the refusal of some number, or what stands behind all of its tests, and then G holds
+pub data Comes {A : Type 0} (refusal : ℕ → A) (G : Type 0) (a : A) : A → Type 0 where
+  refused : (n : ℕ) → Comes refusal G a (refusal n)
+  accepted : G → Comes refusal G a a
+
+-- so what holds of every refusal, and of what stands behind where G holds, holds of the chain
+pub either : {A : Type 0} {refusal : ℕ → A} {G : Type 0} {a x : A} (P : A → Type 0) → Comes refusal G a x → ((n : ℕ) → P (refusal n)) → (G → P a) → P x
+either P (refused n) p q = p n
+either P (accepted g) p q = q g

@@ -1,20 +1,15 @@
 -- How the answers of a sender's calls meet the promises. Assumes nothing.
-use Prim.Native.Nat.{ℕ, _+_, _≤_, _<_}
+use Prim.Native.Nat.{ℕ, _≤_, _<_}
 use mathlib.Core.Path.{_≡_, refl, _∙_}
-use mathlib.Core.Bool.{false, not}
 use mathlib.Core.List.{List}
 use native.Mathlib.Omega.{arith}
-use lib.Dec.{ltb, leb}
 use lib.ListN.{length}
-use borrow.Author.Tests.{lt-ltb, le-ltb, ltb-false}
+use borrow.Author.Tests.{lt-ltb, le-ltb}
 use Rattle.units.specs.declared.Refusal.{Refusal}
-use Rattle.units.specs.Limits.{lastStamp, mostPayload, mostInSequence, mostPeriodPackets, mostPeriodOctets}
 use Rattle.units.specs.Refusals.{noRoom, senderDamaged}
-use Rattle.fields.proofs.Tests.{or-false}
+use Rattle.fields.proofs.Choosing.{either}
 use Rattle.frame.specs.declared.Written.{Written}
 use Rattle.frame.specs.declared.Written.the-variants.{Done, Refused}
-use Rattle.frame.specs.Counts.{listWrong}
-use Rattle.frame.specs.Layout.{filled}
 use Rattle.frame.specs.Paper.{writtenPaper}
 use Rattle.frame.proofs.OnePaper.{written-known}
 use Rattle.sender.specs.declared.Sender.{Sender}
@@ -22,14 +17,15 @@ use Rattle.sender.specs.declared.Dispatch.{Dispatch}
 use Rattle.sender.specs.declared.Turned.{Turned}
 use Rattle.sender.specs.declared.Turned.the-variants.{Done as TurnDone, Refused as NotTurned}
 use Rattle.sender.specs.declared.Turning.{Turning}
-use Rattle.sender.specs.State.{damaged, isOpen, freshSender}
+use Rattle.sender.specs.State.{freshSender}
 use Rattle.sender.specs.Calls.{dataCall, closeCall, closeWithCall, turnedPaper, Turns, Sends}
 use Rattle.sender.proofs.OnePaper.{turned-known}
+use Rattle.sender.proofs.RefusedOrAccepted.{data-comes, close-comes, close-with-comes}
+use Rattle.sender.proofs.Undamaged.{undamaged}
 use Rattle.numbers.specs.Answers.{inOne}
 use Rattle.numbers_state.specs.States.{withState}
 use Rattle.numbers_sender.specs.Senders.{turnedState, sentState, MakesFresh, TurnsState, SendsState}
 use Rattle.numbers.proofs.InOne.{Few, lengths-few}
-use Rattle.fields.proofs.Choosing.{tested}
 
 -- a turn's number and the state after it
 module _ (a : Turned) where
@@ -53,46 +49,18 @@ abbrev pub FewSent : Dispatch → Type 0
 FewSent t = Few (t .answer)
 
 pub few-sent : (s : Sender) (l room : ℕ) → FewSent (dataCall s l room)
-unfolding dataCall writtenPaper
-few-sent s l room =
-    tested FewSent _ _ (damaged s) (λ _. omega arith)
-    (λ _.
-    tested FewSent _ _ (not (isOpen (s .phase))) (λ _. omega arith)
-    (λ _.
-    tested FewSent _ _ (ltb mostPayload l) (λ _. omega arith)
-    (λ h.
-    tested FewSent _ _ (leb mostInSequence (s .number .0)) (λ _. omega arith)
-    (λ _.
-    tested FewSent _ _ (leb mostPeriodPackets (s .packets .0)) (λ _. omega arith)
-    (λ _.
-    tested FewSent _ _ (ltb mostPeriodOctets (s .octets .0 + l)) (λ _. omega arith)
-    (λ _. tested FewSent _ _ (ltb room (11 + l)) (λ _. omega arith) (λ _. omega (arith, ltb-false mostPayload l h))))))))
+unfolding writtenPaper
+few-sent s l room = either FewSent (data-comes s l room) (λ _. omega arith) (λ g. omega (arith, g .short))
 
 pub few-closed : (s : Sender) (room : ℕ) → FewSent (closeCall s room)
-unfolding closeCall writtenPaper
-few-closed s room =
-    tested FewSent _ _ (damaged s) (λ _. omega arith)
-    (λ _.
-    tested FewSent _ _ (not (isOpen (s .phase))) (λ _. omega arith)
-    (λ _. tested FewSent _ _ (ltb room 18) (λ _. omega arith) (λ _. omega arith)))
-
-number-few : (s : Sender) → damaged s ≡ false → s .number .0 ≤ 65535
-unfolding damaged
-number-few s w =
-    let p = or-false (ltb lastStamp (s .stamp)) _ w .1 in
-    ltb-false mostInSequence (s .number .0) (or-false (ltb mostInSequence (s .number .0)) _ p .0)
+unfolding writtenPaper
+few-closed s room = either FewSent (close-comes s room) (λ _. omega arith) (λ _. omega arith)
 
 pub few-closed-with : (s : Sender) (ls : List ℕ) (room : ℕ) → FewSent (closeWithCall s ls room)
-unfolding closeWithCall writtenPaper
+unfolding writtenPaper
 few-closed-with s ls room =
-    tested FewSent _ _ (damaged s) (λ _. omega arith)
-    (λ d.
-    tested FewSent _ _ (not (isOpen (s .phase))) (λ _. omega arith)
-    (λ _.
-    tested FewSent _ _ (listWrong ls (s .number .0) (s .elapsed .0)) (λ _. omega arith)
-    (λ h.
-    tested FewSent _ _ (ltb room (19 + filled (length ls))) (λ _. omega arith)
-    (λ _. lengths-few ls (s .number .0) (s .elapsed .0) h (number-few s d)))))
+    either FewSent (close-with-comes s ls room) (λ _. omega arith)
+    (λ g. lengths-few ls (s .number .0) (s .elapsed .0) (g .listed) (undamaged s (g .whole) .number))
 
 -- a list too short for a state, and one that has room
 pub short-fresh : (old : List ℕ) → length old < 6 → MakesFresh old noRoom old

@@ -1,7 +1,7 @@
 -- The frames of one sequence are those that opening, data calls and closing write: from an undamaged sender between sequences, for
 -- payloads within the limits, every call is accepted, the frames are `dataFrames`, and the closing is `closingAfter`.
 -- Assumes nothing.
-use Prim.Native.Nat.{ℕ, _+_, _≤_, _<_}
+use Prim.Native.Nat.{ℕ, _+_, _≤_}
 use mathlib.Core.Path.{_≡_, refl, sym, ap, ap₂, _∙_}
 use mathlib.Core.List.{List, [], _∷_}
 use mathlib.Core.Bool.{true, false, not, true≢false}
@@ -9,10 +9,9 @@ use native.Mathlib.Nat.{add-zero, zero-add, add-assoc}
 use native.Mathlib.Omega.{arith}
 use lib.ListN.{length}
 use lib.Dec.{eqb}
-use borrow.Author.Tests.{le-ltb, lt-leb, eqb-true, not-false}
+use borrow.Author.Tests.{eqb-true, not-false}
 use Rattle.fields.proofs.Tests.{or-false}
 use Rattle.units.specs.Limits.{mostPayload, mostInSequence, mostPeriodPackets}
-use Rattle.frame.specs.declared.Written.the-variants.{Done}
 use Rattle.frame.specs.Writing.{dataFrame}
 use Rattle.sender.specs.declared.Phase.{Phase}
 use Rattle.sender.specs.declared.Phase.the-variants.{Fresh, Open, Closed}
@@ -22,8 +21,9 @@ use Rattle.sender.specs.State.{damaged, isOpen, restWrong, closingBy}
 use Rattle.frame.specs.Counts.{someOf}
 use Rattle.sender.specs.Calls.{advanced, begins, dataCall}
 use Rattle.sender.specs.Sequence.{dataFrames, countOf, octetsOf, closingAfter, carried, afterData, framesBy}
+use Rattle.sender.proofs.RefusedOrAccepted.{DataGoes, data-accepted}
 use Rattle.sender.proofs.StaysUndamaged.{data-undamaged}
-use Rattle.sender.proofs.Undamaged.{undamaged, few-octets}
+use Rattle.sender.proofs.Undamaged.{undamaged}
 
 -- each payload has at most 4,095 octets
 pub data Short : List (List ℕ) → Type 0 where
@@ -37,15 +37,6 @@ pub record Ready (s : Sender) (ps : List (List ℕ)) : Type 0 where
   pub number : s .number .0 + countOf ps ≤ mostInSequence
   pub packets : s .packets .0 + countOf ps ≤ mostPeriodPackets
 
--- a data call is accepted, and what it leaves
-data-accepted : (s : Sender) (p : List ℕ) → damaged s ≡ false → isOpen (s .phase) ≡ true → length p ≤ mostPayload → s .number .0 < mostInSequence
-    → s .packets .0 < mostPeriodPackets → dataCall s (length p) (11 + length p) ≡ record { answer = Done (11 + length p); sender = advanced s (length p) }
-unfolding dataCall
-data-accepted s p w o h n m =
-    let u = undamaged s w in
-    let f = few-octets s u in
-    simp (w, o, le-ltb _ _ h, lt-leb mostInSequence (s .number .0) n, lt-leb mostPeriodPackets (s .packets .0) m, le-ltb 1099511627775 (s .octets .0 + length p) (omega arith), le-ltb (11 + length p) (11 + length p) (omega arith))
-
 open-phase : (f : Phase) → isOpen f ≡ true → f ≡ Open
 open-phase Fresh e = absurd (true≢false (sym e))
 open-phase Open e = refl
@@ -58,7 +49,9 @@ unfolding countOf
 rest-ready s p ps h r =
     let n = r .number in
     let m = r .packets in
-    let e = ap (λ (x : Dispatch). x .sender) (data-accepted s p (r .whole) (r .turn) h (omega arith) (omega arith)) in
+    let g : DataGoes s (length p) (11 + length p) =
+    record { whole = r .whole; turn = r .turn; short = h; number = omega arith; packets = omega arith; fits = omega arith } in
+    let e = ap (λ (x : Dispatch). x .sender) (data-accepted s (length p) (11 + length p) g) in
     (e, record { whole = rw e at (data-undamaged s (r .whole) (length p) (11 + length p)); turn = refl; number = omega arith; packets = omega arith })
 
 pub frames-are : (s : Sender) {ps : List (List ℕ)} → Short ps → Ready s ps → framesBy s ps ≡ dataFrames (s .stamp) (s .number .0) (s .elapsed .0) ps

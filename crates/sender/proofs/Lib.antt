@@ -1,6 +1,8 @@
 pub mod Answering
 pub mod FramesOfSequence
+pub mod NeverReached
 pub mod OnePaper
+pub mod RefusedOrAccepted
 pub mod SentIsRead
 pub mod StaysUndamaged
 pub mod Undamaged

@@ -1,24 +1,21 @@
 -- An undamaged sender stays undamaged under every call, accepted or refused. Assumes nothing.
-use Prim.Native.Nat.{ℕ, _+_, _≤_, _<_}
+use Prim.Native.Nat.{ℕ, _≤_, _<_}
 use mathlib.Core.Path.{_≡_, refl}
 use mathlib.Core.List.{List}
-use mathlib.Core.Bool.{false, not}
+use mathlib.Core.Bool.{false}
 use native.Mathlib.Omega.{arith}
-use lib.ListN.{length}
-use lib.Dec.{ltb, leb}
-use borrow.Author.Tests.{le-ltb, ltb-false, leb-false}
-use Rattle.units.specs.Limits.{lastStamp, mostPayload, mostInSequence, mostPeriodPackets, mostPeriodOctets}
-use Rattle.fields.proofs.Choosing.{whichever}
+use borrow.Author.Tests.{le-ltb}
+use Rattle.units.specs.Limits.{lastStamp, mostPayload, mostInSequence, mostPeriodPackets}
+use Rattle.fields.proofs.Choosing.{either}
 use Rattle.frame.specs.declared.ClosingPdu.{ClosingPdu}
-use Rattle.frame.specs.Counts.{closingWrong, listWrong}
-use Rattle.frame.specs.Layout.{filled}
+use Rattle.frame.specs.Counts.{someOf, closingWrong}
 use Rattle.frame.proofs.Said.{Possible}
 use Rattle.sender.specs.declared.Sender.{Sender}
 use Rattle.sender.specs.declared.Dispatch.{Dispatch}
 use Rattle.sender.specs.declared.Turning.{Turning}
-use Rattle.sender.specs.State.{damaged, isOpen, notLater, restWrong, freshSender, closingBy}
-use Rattle.frame.specs.Counts.{someOf}
-use Rattle.sender.specs.Calls.{stays, keeps, begins, advanced, closedSender, openCall, renewCall, dataCall, closeCall, closeWithCall}
+use Rattle.sender.specs.State.{damaged, restWrong, freshSender, closingBy}
+use Rattle.sender.specs.Calls.{begins, advanced, closedSender, openCall, renewCall, dataCall, closeCall, closeWithCall}
+use Rattle.sender.proofs.RefusedOrAccepted.{open-comes, renew-comes, data-comes, close-comes, close-with-comes}
 use Rattle.sender.proofs.Undamaged.{Undamaged, undamaged, few-octets}
 
 abbrev Whole : Sender → Type 0
@@ -70,43 +67,17 @@ module _ (s : Sender) (w : Whole s) where
   Sent t = Whole (t .sender)
 
   pub open-undamaged : (stamp : ℕ) → Whole (openCall s stamp .sender)
-  unfolding openCall
-  open-undamaged stamp =
-      whichever After (stays s 21) _ (damaged s) w
-      (λ _. whichever After (stays s 15) _ (isOpen (s .phase)) w
-      (λ _. whichever After (stays s 5) _ (ltb lastStamp stamp) w
-      (λ h. whichever After (stays s 16) (begins s stamp) (notLater (s .phase) s stamp) w
-      (λ _. begun-undamaged s stamp (undamaged s w) (ltb-false lastStamp stamp h)))))
+  open-undamaged stamp = either After (open-comes s stamp) (λ _. w) (λ g. begun-undamaged s stamp (undamaged s w) (g .stamped))
 
   pub renew-undamaged : Whole (renewCall s .sender)
-  unfolding renewCall
-  renew-undamaged =
-      whichever After (stays s 21) _ (damaged s) w
-      (λ _. whichever After (stays s 15) _ (isOpen (s .phase)) w (λ _. fresh-undamaged))
+  renew-undamaged = either After (renew-comes s) (λ _. w) (λ _. fresh-undamaged)
 
   pub data-undamaged : (l room : ℕ) → Whole (dataCall s l room .sender)
-  unfolding dataCall
   data-undamaged l room =
-      whichever Sent (keeps s 21) _ (damaged s) w
-      (λ _. whichever Sent (keeps s 15) _ (not (isOpen (s .phase))) w
-      (λ _. whichever Sent (keeps s 20) _ (ltb mostPayload l) w
-      (λ hl. whichever Sent (keeps s 17) _ (leb mostInSequence (s .number .0)) w
-      (λ hn. whichever Sent (keeps s 18) _ (leb mostPeriodPackets (s .packets .0)) w
-      (λ hp. whichever Sent (keeps s 19) _ (ltb mostPeriodOctets (s .octets .0 + l)) w
-      (λ _. whichever Sent (keeps s 12) _ (ltb room (11 + l)) w
-      (λ _. advanced-undamaged s l (undamaged s w) (ltb-false mostPayload l hl) (leb-false mostInSequence (s .number .0) hn) (leb-false mostPeriodPackets (s .packets .0) hp))))))))
+      either Sent (data-comes s l room) (λ _. w) (λ g. advanced-undamaged s l (undamaged s w) (g .short) (g .number) (g .packets))
 
   pub close-undamaged : (room : ℕ) → Whole (closeCall s room .sender)
-  unfolding closeCall
-  close-undamaged room =
-      whichever Sent (keeps s 21) _ (damaged s) w
-      (λ _. whichever Sent (keeps s 15) _ (not (isOpen (s .phase))) w
-      (λ _. whichever Sent (keeps s 12) _ (ltb room 18) w (λ _. closed-undamaged s (undamaged s w))))
+  close-undamaged room = either Sent (close-comes s room) (λ _. w) (λ _. closed-undamaged s (undamaged s w))
 
   pub close-with-undamaged : (ls : List ℕ) (room : ℕ) → Whole (closeWithCall s ls room .sender)
-  unfolding closeWithCall
-  close-with-undamaged ls room =
-      whichever Sent (keeps s 21) _ (damaged s) w
-      (λ _. whichever Sent (keeps s 15) _ (not (isOpen (s .phase))) w
-      (λ _. whichever Sent (keeps s 22) _ (listWrong ls (s .number .0) (s .elapsed .0)) w
-      (λ _. whichever Sent (keeps s 12) _ (ltb room (19 + filled (length ls))) w (λ _. closed-undamaged s (undamaged s w)))))
+  close-with-undamaged ls room = either Sent (close-with-comes s ls room) (λ _. w) (λ _. closed-undamaged s (undamaged s w))

@@ -36,7 +36,7 @@ undamaged s w =
       rest = p4 .1;
     }
 
--- the octets of a period are below 2^40, by the packet limit and the payload limit
+-- the period has at most 4,095 octets for each of its packets
 pub few-octets : (s : Sender) → Undamaged s → s .octets .0 ≤ mostPayload * s .packets .0
 few-octets s u =
     let p = u .possible in

@@ -6,8 +6,8 @@ use mathlib.Core.List.{List}
 use mathlib.Core.Bool.{not}
 use lib.ListN.{length}
 use lib.Dec.{ltb, leb}
-use Rattle.units.specs.Limits.{lastStamp, mostPayload, mostInSequence, mostPeriodPackets, mostPeriodOctets}
-use Rattle.units.specs.Refusals.{refusing, stampTooHigh, noRoom, outOfTurn, stampNotLater, sequenceFull, periodFull, octetsFull, payloadTooLong, senderDamaged, lengthsWrong}
+use Rattle.units.specs.Limits.{lastStamp, mostPayload, mostInSequence, mostPeriodPackets}
+use Rattle.units.specs.Refusals.{refusing, stampTooHigh, noRoom, outOfTurn, stampNotLater, sequenceFull, periodFull, payloadTooLong, senderDamaged, lengthsWrong}
 use Rattle.fields.specs.Choice.{_when_otherwise_}
 use Rattle.frame.specs.declared.Written.the-variants.{Done, Refused}
 use Rattle.frame.specs.Counts.{listWrong}
@@ -72,7 +72,8 @@ advanced s l =
       octets = record { 0 = s .octets .0 + l };
     }
 
--- "Data: 21, 15, 20, 17, 18, 19, 12", for a payload of l octets and a lent memory of room octets
+-- data: 21, 15, 20, 17, 18, 12, document 01's order without 19, which no undamaged sender reaches (document 02, request 9; `never-reached`);
+-- for a payload of l octets and a lent memory of room octets
 unfoldable pub dataCall : Sender → ℕ → ℕ → Dispatch
 dataCall s l room =
     keeps s senderDamaged when damaged s otherwise
@@ -80,7 +81,6 @@ dataCall s l room =
     keeps s payloadTooLong when ltb mostPayload l otherwise
     keeps s sequenceFull when leb mostInSequence (s .number .0) otherwise
     keeps s periodFull when leb mostPeriodPackets (s .packets .0) otherwise
-    keeps s octetsFull when ltb mostPeriodOctets (s .octets .0 + l) otherwise
     keeps s noRoom when ltb room (dataHead + l) otherwise
     record { answer = Done (dataHead + l); sender = advanced s l }
 

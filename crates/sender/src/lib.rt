@@ -20,10 +20,8 @@ use units::Refusal;
 use units::limits::LAST_STAMP;
 use units::limits::MOST_IN_SEQUENCE;
 use units::limits::MOST_PAYLOAD;
-use units::limits::MOST_PERIOD_OCTETS;
 use units::limits::MOST_PERIOD_PACKETS;
 use units::refusals::NO_ROOM;
-use units::refusals::OCTETS_FULL;
 use units::refusals::OUT_OF_TURN;
 use units::refusals::PAYLOAD_TOO_LONG;
 use units::refusals::PERIOD_FULL;
@@ -128,9 +126,6 @@ pub fn sent(s: Sender, payload: &[u8], out: &mut [u8]) -> Dispatch
     }
     if MOST_PERIOD_PACKETS <= s.packets.0 as u64 {
         return send_refused(s, PERIOD_FULL);
-    }
-    if MOST_PERIOD_OCTETS < s.octets.0 + l {
-        return send_refused(s, OCTETS_FULL);
     }
     if out.len() < DATA_HEAD + payload.len() {
         return send_refused(s, NO_ROOM);

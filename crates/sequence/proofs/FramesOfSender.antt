@@ -2,15 +2,12 @@
 -- call. So an empty record that hears them refuses none, and depends only on which it heard. Assumes nothing.
 use Prim.Native.Nat.{ℕ, _+_, _≤_}
 use mathlib.Core.Path.{_≡_, refl, sym, ap, _∙_, subst}
-use mathlib.Core.Bool.{Bool, true, false, not}
+use mathlib.Core.Bool.{true, false}
 use mathlib.Core.List.{List, [], _∷_, map}
 use native.Mathlib.Omega.{arith}
-use lib.Dec.{ltb}
 use lib.ListN.{length, getD, replicate}
-use borrow.Author.Tests.{ltb-false, le-ltb, eq-eqb}
-use Rattle.units.specs.Limits.{lastStamp, mostInSequence, mostPeriodPackets, mostCapacity}
-use Rattle.units.specs.Refusals.{stampTooHigh, outOfTurn, stampNotLater, senderDamaged, lengthsWrong}
-use Rattle.fields.specs.Choice.{_when_otherwise_}
+use borrow.Author.Tests.{le-ltb, eq-eqb}
+use Rattle.units.specs.Limits.{mostInSequence, mostPeriodPackets, mostCapacity}
 use Rattle.fields.proofs.Tests.{or-no}
 use Rattle.frame.specs.declared.ClosingPdu.{ClosingPdu}
 use Rattle.frame.specs.declared.Written.the-variants.{Done}
@@ -18,13 +15,13 @@ use Rattle.frame.specs.Counts.{anyAbove, sumOf, listWrong}
 use Rattle.frame.specs.Writing.{closingFrame, lengthsFrame}
 use Rattle.sender.specs.declared.Sender.{Sender}
 use Rattle.sender.specs.declared.Turned.the-variants.{Done as TurnDone}
-use Rattle.sender.specs.declared.Turning.{Turning}
-use Rattle.sender.specs.State.{damaged, isOpen, notLater, closingBy}
-use Rattle.sender.specs.Calls.{stays, begins, openCall, closeCall, closeWithCall, dataCall}
+use Rattle.sender.specs.declared.Dispatch.{Dispatch}
+use Rattle.sender.specs.State.{damaged, isOpen, closingBy}
+use Rattle.sender.specs.Calls.{begins, openCall, closeCall, closeWithCall, dataCall}
 use Rattle.sender.specs.Sequence.{countOf, octetsOf, closingAfter, carried, afterData, framesBy}
 use Rattle.sender.proofs.FramesOfSequence.{Short, Ready, zeros, counts-are, sequence-frames, sequence-closing}
 use Rattle.sender.proofs.FramesOfSequence.Short.{none, more}
-use Rattle.sender.proofs.SentIsRead.{passed}
+use Rattle.sender.proofs.RefusedOrAccepted.{OpenGoes, open-goes, close-accepted, close-with-goes}
 use Rattle.sender.proofs.StaysUndamaged.{open-undamaged, data-undamaged}
 use Rattle.sender.proofs.Undamaged.{undamaged, few-octets}
 use Rattle.reception.specs.declared.Taken.the-variants.{Done as Accepted}
@@ -44,29 +41,6 @@ pub record Opened (s : Sender) (stamp : ℕ) (ps : List (List ℕ)) : Type 0 whe
   pub few : countOf ps ≤ mostInSequence
   pub totals : s .packets .0 + countOf ps ≤ mostPeriodPackets
 
--- an accepted turn passed the first test
-turned : (s : Sender) (n : ℕ) (t : Bool) (b : Turning) → (stays s n when t otherwise b) .answer ≡ TurnDone → (t ≡ false) × (b .answer ≡ TurnDone)
-turned s n true b e =
-    let z : _≡_ {A = ℕ} 0 1 = cc in
-    absurd (omega arith)
-turned s n false b e = (refl, e)
-
--- what an accepted opening tells
-record Begun (s : Sender) (stamp : ℕ) : Type 0 where
-  whole : damaged s ≡ false
-  rest : isOpen (s .phase) ≡ false
-  stamped : stamp ≤ lastStamp
-  next : openCall s stamp .sender ≡ begins s stamp .sender
-
-begun : (s : Sender) (stamp : ℕ) → openCall s stamp .answer ≡ TurnDone → Begun s stamp
-unfolding openCall
-begun s stamp e =
-    let p1 = turned s senderDamaged (damaged s) _ e in
-    let p2 = turned s outOfTurn (isOpen (s .phase)) _ (p1 .1) in
-    let p3 = turned s stampTooHigh (ltb lastStamp stamp) _ (p2 .1) in
-    let p4 = turned s stampNotLater (notLater (s .phase) s stamp) (begins s stamp) (p3 .1) in
-    record { whole = p1 .0; rest = p2 .0; stamped = ltb-false _ _ (p3 .0); next = simp (p1 .0, p2 .0, p3 .0, p4 .0) }
-
 -- data calls leave an undamaged sender
 all-undamaged : (s : Sender) (ps : List (List ℕ)) → damaged s ≡ false → damaged (afterData s ps) ≡ false
 unfolding afterData
@@ -79,15 +53,18 @@ none-above none = refl
 none-above (more h w) = or-no (le-ltb _ _ h) (none-above w)
 
 module _ (s : Sender) (stamp : ℕ) (ps : List (List ℕ)) (o : Opened s stamp ps) where
-  abbrev told : Begun s stamp
-  told = begun s stamp (o .accepted)
+  abbrev told : OpenGoes s stamp
+  told = open-goes s stamp (o .accepted) .0
+
+  abbrev next : openCall s stamp .sender ≡ begins s stamp .sender
+  next = open-goes s stamp (o .accepted) .1
 
   ready : Ready (begins s stamp .sender) ps
   ready =
       let b = told in
       let z = zeros (s .phase) s (b .rest) (undamaged s (b .whole) .rest) in
       record {
-        whole = subst (λ (x : Sender). damaged x ≡ false) (b .next) (open-undamaged s (b .whole) stamp);
+        whole = subst (λ (x : Sender). damaged x ≡ false) next (open-undamaged s (b .whole) stamp);
         turn = refl;
         number = omega (arith, z .0, o .few);
         packets = o .totals;
@@ -104,7 +81,7 @@ module _ (s : Sender) (stamp : ℕ) (ps : List (List ℕ)) (o : Opened s stamp p
   unfolding frameOf
   data-frame-sent k =
       let b = told in
-      ap (λ (x : Sender). getD (framesBy x ps) k []) (b .next)
+      ap (λ (x : Sender). getD (framesBy x ps) k []) next
       ∙ ap (λ (fs : List (List ℕ)). getD fs k []) (sequence-frames s stamp (o .short) (b .whole) (b .rest) ready)
 
   -- the sender when all its data calls were made
@@ -114,7 +91,7 @@ module _ (s : Sender) (stamp : ℕ) (ps : List (List ℕ)) (o : Opened s stamp p
   closing-said : closingBy last ≡ closingAfter stamp (s .packets .0) (s .octets .0) ps
   closing-said =
       let b = told in
-      ap (λ (x : Sender). closingBy (afterData x ps)) (b .next) ∙ sequence-closing s stamp (o .short) (b .whole) (b .rest) ready
+      ap (λ (x : Sender). closingBy (afterData x ps)) next ∙ sequence-closing s stamp (o .short) (b .whole) (b .rest) ready
 
   -- the frame of its closing call, of Type 0
   pub closing-frame-sent : closingFrame (closingBy (afterData (openCall s stamp .sender) ps)) ≡ frameOf stamp (s .packets .0) (s .octets .0) ps PlainClosing
@@ -133,23 +110,20 @@ module _ (s : Sender) (stamp : ℕ) (ps : List (List ℕ)) (o : Opened s stamp p
   last-open : isOpen (last .phase) ≡ true
   unfolding carried
   last-open =
-      ap (λ (x : Sender). isOpen (afterData x ps .phase)) (told .next)
+      ap (λ (x : Sender). isOpen (afterData x ps .phase)) next
       ∙ ap (λ (x : Sender). isOpen (x .phase)) (counts-are (begins s stamp .sender) (o .short) ready)
 
   -- its closing call is accepted where there is room
   pub closing-call-accepted : (room : ℕ) → 18 ≤ room → closeCall (afterData (openCall s stamp .sender) ps) room .answer ≡ Done 18
-  unfolding closeCall
-  closing-call-accepted room le = simp (last-whole, last-open, le-ltb room 18 le)
+  closing-call-accepted room le =
+      ap (λ (x : Dispatch). x .answer) (close-accepted last room (record { whole = last-whole; turn = last-open; fits = le }))
 
   -- and of Type 3 only with lengths that a piece of the sequence has
   pub lengths-call-accepted : (ls : List ℕ) (room k : ℕ) → closeWithCall (afterData (openCall s stamp .sender) ps) ls room .answer ≡ Done k
       → PieceOf ps (ListedClosing ls)
-  unfolding closeWithCall
   lengths-call-accepted ls room k e =
-      let p1 = passed last senderDamaged k (damaged last) _ e in
-      let p2 = passed last outOfTurn k (not (isOpen (last .phase))) _ (p1 .1) in
-      let p3 = passed last lengthsWrong k (listWrong ls (last .number .0) (last .elapsed .0)) _ (p2 .1) in
-      with-lengths (subst (λ (x : ClosingPdu). listWrong ls (x .number .0) (x .elapsed .0) ≡ false) closing-said (p3 .0))
+      let g = close-with-goes last ls room k e .0 in
+      with-lengths (subst (λ (x : ClosingPdu). listWrong ls (x .number .0) (x .elapsed .0) ≡ false) closing-said (g .listed))
 
   -- such as those of its payloads
   pub own-lengths : PieceOf ps (ListedClosing (lengthsOf ps))

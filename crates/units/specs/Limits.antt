@@ -23,10 +23,6 @@ lastStamp = 59999
 abbrev pub mostPeriodPackets : ℕ
 mostPeriodPackets = 16777215
 
--- "Total Number Of Octet (5)": five octets
-abbrev pub mostPeriodOctets : ℕ
-mostPeriodOctets = 1099511627775
-
 -- all of them, in this order
 abbrev pub limits : List ℕ
-limits = mostPayload ∷ mostInSequence ∷ mostCapacity ∷ lastStamp ∷ mostPeriodPackets ∷ mostPeriodOctets ∷ []
+limits = mostPayload ∷ mostInSequence ∷ mostCapacity ∷ lastStamp ∷ mostPeriodPackets ∷ []

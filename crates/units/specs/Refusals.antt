@@ -1,4 +1,5 @@
--- The refusal numbers by name: the rows of document 01, "Refusal numbers". Assumes nothing.
+-- The refusal numbers by name: the rows of document 01, "Refusal numbers", but for one that document 02, request 9, took out (decision 22).
+-- Assumes nothing.
 use Prim.Native.Nat.{ℕ}
 use mathlib.Core.List.{List, [], _∷_}
 use Rattle.units.specs.declared.Refusal.{Refusal}
@@ -75,10 +76,6 @@ sequenceFull = 17
 abbrev pub periodFull : ℕ
 periodFull = 18
 
--- the period's octets would pass 2^40 - 1
-abbrev pub octetsFull : ℕ
-octetsFull = 19
-
 -- a payload above 4,095 octets to be written
 abbrev pub payloadTooLong : ℕ
 payloadTooLong = 20
@@ -98,7 +95,7 @@ periodOver = 23
 -- all of them, in the order of the table
 abbrev pub refusals : List ℕ
 refusals =
-    tooShort ∷ typeTwo ∷ typeUnknown ∷ headerCheckWrong ∷ stampTooHigh ∷ sizeWrong ∷ payloadCheckWrong ∷ countsImpossible ∷ otherSequence ∷ beyondCapacity ∷ contradiction ∷ noRoom ∷ recordDamaged ∷ capacitiesDiffer ∷ outOfTurn ∷ stampNotLater ∷ sequenceFull ∷ periodFull ∷ octetsFull ∷ payloadTooLong ∷ senderDamaged ∷ lengthsWrong ∷ periodOver ∷ []
+    tooShort ∷ typeTwo ∷ typeUnknown ∷ headerCheckWrong ∷ stampTooHigh ∷ sizeWrong ∷ payloadCheckWrong ∷ countsImpossible ∷ otherSequence ∷ beyondCapacity ∷ contradiction ∷ noRoom ∷ recordDamaged ∷ capacitiesDiffer ∷ outOfTurn ∷ stampNotLater ∷ sequenceFull ∷ periodFull ∷ payloadTooLong ∷ senderDamaged ∷ lengthsWrong ∷ periodOver ∷ []
 
 -- the refusal with a number: "a refusal returns its number and zeros elsewhere"
 abbrev pub refusing : ℕ → Refusal

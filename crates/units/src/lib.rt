@@ -9,7 +9,7 @@ pub struct Packets(pub u32);
 // A count of payload octets.
 pub struct Octets(pub u64);
 
-// Why a call was refused: a number of the refusal table, 1 to 23.
+// Why a call was refused: a number of the refusal table, 1 to 23, of which 19 is not given.
 pub struct Refusal {
     pub number: u8,
 }

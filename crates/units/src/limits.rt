@@ -17,11 +17,8 @@ pub const LAST_STAMP: u64 = 59999;
 // Packets of one period, by the width of their field.
 pub const MOST_PERIOD_PACKETS: u64 = 16777215;
 
-// Octets of one period, by the width of their field.
-pub const MOST_PERIOD_OCTETS: u64 = 1099511627775;
-
 // Every limit, as specs/ lists them: a limit that differs there is not proved.
-fn all_limits() -> [u64; 6]
+fn all_limits() -> [u64; 5]
     ensures { λ r. ⌜ r ≡ limits ⌝ }
 {
     [
@@ -30,6 +27,5 @@ fn all_limits() -> [u64; 6]
         MOST_CAPACITY,
         LAST_STAMP,
         MOST_PERIOD_PACKETS,
-        MOST_PERIOD_OCTETS,
     ]
 }

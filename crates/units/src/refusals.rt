@@ -38,8 +38,6 @@ pub const SEQUENCE_FULL: u8 = 17;
 
 pub const PERIOD_FULL: u8 = 18;
 
-pub const OCTETS_FULL: u8 = 19;
-
 pub const PAYLOAD_TOO_LONG: u8 = 20;
 
 pub const SENDER_DAMAGED: u8 = 21;
@@ -49,7 +47,7 @@ pub const LENGTHS_WRONG: u8 = 22;
 pub const PERIOD_OVER: u8 = 23;
 
 // Every number, as specs/ lists them: a number that differs there is not proved.
-fn all_numbers() -> [u8; 23]
+fn all_numbers() -> [u8; 22]
     ensures { λ r. ⌜ r ≡ refusals ⌝ }
 {
     [
@@ -71,7 +69,6 @@ fn all_numbers() -> [u8; 23]
         STAMP_NOT_LATER,
         SEQUENCE_FULL,
         PERIOD_FULL,
-        OCTETS_FULL,
         PAYLOAD_TOO_LONG,
         SENDER_DAMAGED,
         LENGTHS_WRONG,

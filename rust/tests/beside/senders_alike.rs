@@ -7,7 +7,7 @@ use crate::peers::Noise;
 use crate::senders::{CLOSED, FRESH, OPEN, State};
 use crate::sequences::{Tally, below, next_to, numbered, one_in};
 use quimdoral::sender::Phase;
-use quimdoral::{Octets, Packets, Refusal, Sender, lent, sender};
+use quimdoral::{Frame, Octets, Packets, Refusal, Sender, frames, lent, sender};
 
 #[derive(Clone, Debug)]
 enum Call {
@@ -216,7 +216,7 @@ fn senders_at_their_limits_take_calls_alike() {
         tally.add(call_any(&mut noise, &mut state));
         assert!(!state.damaged(), "a call damaged the state: {state:?}");
     }
-    // Refusal 19 cannot be reached: 16,777,215 packets carry fewer octets.
+    // 19 was taken out, since 16,777,215 packets carry fewer than 2^40 octets: nothing gives it.
     assert!(tally.calls() == SENT[1] && tally.came(&[0, 5, 12, 15, 16, 17, 18, 20, 22], 1_000) && tally.0[19] == 0, "{tally:?}");
 }
 
@@ -319,6 +319,28 @@ fn the_first_refusal_counts() {
     }
     assert_eq!(answer(&[0; 5], Call::Fresh, 0), Err(12));
     assert_eq!(answer(&[7; 6], Call::Fresh, 0), Ok(()));
+}
+
+/// A period that gets its last packet, when all others were of the longest: its octets are the most that there can be, and fit their field.
+#[test]
+fn the_fullest_period_is_closed() {
+    const PACKETS: u64 = 16_777_215;
+    let mut noise = Noise(96);
+    for number in [1, 2, 300, 65_534] {
+        let octets = 4_095 * (PACKETS - 1);
+        let mut state = State(vec![OPEN, 5, number - 1, 4_095 * (number - 1), PACKETS - 1, octets]);
+        for (payload, expected) in [(4_096, Err(20)), (4_095, Ok(())), (0, Err(18)), (4_095, Err(18))] {
+            assert_eq!(call_alike(&mut noise, &mut state, &Call::Data(vec![1; payload]), 11 + 4_096), expected, "{state:?}");
+        }
+        assert_eq!(state.0, [OPEN, 5, number, 4_095 * number, PACKETS, 4_095 * PACKETS]);
+        let lengths = vec![4_095; number as usize];
+        for call in [Call::Close, Call::CloseWithLengths(lengths)] {
+            assert_eq!(call_alike(&mut noise, &mut state.clone(), &call, call.needs()), Ok(()));
+            let frame = call.expected(&mut state.clone(), call.needs()).unwrap();
+            let Ok(Frame::Closing(closing) | Frame::ClosingWithLengths(closing)) = frames::read(&frame) else { panic!("{frame:?}") };
+            assert_eq!((closing.total_packets, closing.total_octets), (Packets(PACKETS as u32), Octets(4_095 * PACKETS)));
+        }
+    }
 }
 
 /// A whole sequence of the longest packets, to its last and one more.

@@ -184,6 +184,17 @@ fn records_made_from_parts_are_used_alike() {
     assert!(tally.came(&[0, 13, 14], 1_000), "{tally:?}");
 }
 
+/// Every octet: the numbers of the table stand for their refusals, and no other number for any.
+#[test]
+fn refusals_are_known_by_their_numbers() {
+    for number in 0..=255 {
+        let refusal = quimdoral::Refusal::from_number(number).map(quimdoral::Refusal::number);
+        let given = (1..=18).contains(&number) || (20..=23).contains(&number);
+        assert_eq!(refusal, given.then_some(number), "number {number}");
+    }
+    assert_eq!(quimdoral::Refusal::ALL.len(), 22);
+}
+
 #[test]
 fn refusals_say_what_they_mean() {
     for refusal in quimdoral::Refusal::ALL {

@@ -87,13 +87,11 @@ unfolding dataCall
 returns-5 c =
     let g = sound (c .before .before .before .before .before .before .before .before) in
     let o = open-still (c .before .before .before .before .before .before) in
-    kept (c .send-refused5 .ensures) (simp (g, o, le-ltb _ _ (c .before .before .before .before .before .if3 .left), lt-leb _ _ (c .before .before .before .if4 .left), le-leb _ _ (c .before .if5 .taken)))
+    let full : 16777215 ≤ c .before .before .before .before .before .before .before .before .before .before .before .before .args .s .packets .0 = omega (arith, c .before .if5 .taken) in
+    kept (c .send-refused5 .ensures) (simp (g, o, le-ltb _ _ (c .before .before .before .before .before .if3 .left), lt-leb _ _ (c .before .before .before .if4 .left), le-leb _ _ full))
 
 add-if6 : tie.Need-add-if6
-add-if6 c =
-    let s = c .before .before .before .before .before .before .before .before .before .before .before .before .args .s in
-    let u = undamaged s (sound (c .before .before .before .before .before .before .before .before)) in
-    omega (arith, few-octets s u, u .packets, c .before .before .before .before .before .if3 .left)
+add-if6 c = omega (arith, c .before .before .before .before .if3 .left)
 
 send-refused-requires-6 : tie.Need-send-refused-requires-6
 send-refused-requires-6 c κs = search needs
@@ -101,29 +99,16 @@ send-refused-requires-6 c κs = search needs
 returns-6 : tie.Need-returns-6
 unfolding dataCall
 returns-6 c =
-    let g = sound (c .before .before .before .before .before .before .before .before .before .before) in
-    let o = open-still (c .before .before .before .before .before .before .before .before) in
-    kept (c .send-refused6 .ensures) (simp (g, o, le-ltb _ _ (c .before .before .before .before .before .before .before .if3 .left), lt-leb _ _ (c .before .before .before .before .before .if4 .left), lt-leb _ _ (c .before .before .before .if5 .left), lt-ltb _ _ (c .before .if6 .taken)))
-
-add-if7 : tie.Need-add-if7
-add-if7 c = omega (arith, c .before .before .before .before .before .before .if3 .left)
-
-send-refused-requires-7 : tie.Need-send-refused-requires-7
-send-refused-requires-7 c κs = search needs
-
-returns-7 : tie.Need-returns-7
-unfolding dataCall
-returns-7 c =
-    let g = sound (c .before .before .before .before .before .before .before .before .before .before .before) in
-    let o = open-still (c .before .before .before .before .before .before .before .before .before) in
-    kept (c .send-refused7 .ensures) (simp (g, o, le-ltb _ _ (c .before .before .before .before .before .before .before .before .if3 .left), lt-leb _ _ (c .before .before .before .before .before .before .if4 .left), lt-leb _ _ (c .before .before .before .before .if5 .left), le-ltb _ _ (c .before .before .if6 .left), lt-ltb _ _ (c .before .if7 .taken)))
+    let g = sound (c .before .before .before .before .before .before .before .before .before) in
+    let o = open-still (c .before .before .before .before .before .before .before) in
+    kept (c .send-refused6 .ensures) (simp (g, o, le-ltb _ _ (c .before .before .before .before .before .before .if3 .left), lt-leb _ _ (c .before .before .before .before .if4 .left), lt-leb _ _ (c .before .before .if5 .left), lt-ltb _ _ (c .before .if6 .taken)))
 
 with-packet-requires : tie.Need-with-packet-requires
 with-packet-requires c κs =
-    let s = c .before .before .before .before .before .before .before .before .before .before .before .before .before .before .args .s in
-    let u = undamaged s (sound (c .before .before .before .before .before .before .before .before .before .before)) in
+    let s = c .before .before .before .before .before .before .before .before .before .before .before .before .args .s in
+    let u = undamaged s (sound (c .before .before .before .before .before .before .before .before)) in
     let p = u .possible in
-    (omega (arith, u .number), omega (arith, u .number, p .elapsed), omega (arith, u .packets), omega (arith, few-octets s u, u .packets), omega (arith, c .before .before .before .before .before .before .before .if3 .left))
+    (omega (arith, u .number), omega (arith, u .number, p .elapsed), omega (arith, u .packets), omega (arith, few-octets s u, u .packets), omega (arith, c .before .before .before .before .before .if3 .left))
 
 write-data-requires : tie.Need-write-data-requires
 write-data-requires c κs = search needs
@@ -131,22 +116,22 @@ write-data-requires c κs = search needs
 same-length : tie.Need-same-length
 same-length c = search needs
 
-returns-8 : tie.Need-returns-8
+returns-7 : tie.Need-returns-7
 unfolding dataCall
-returns-8 c =
-    let s = c .before .before .before .before .before .before .before .before .before .before .before .before .before .before .before .before .before .before .before .before .before .args .s in
-    let g = sound (c .before .before .before .before .before .before .before .before .before .before .before .before .before .before .before .before .before) in
-    let o = open-still (c .before .before .before .before .before .before .before .before .before .before .before .before .before .before .before) in
-    let l = length (now (c .before .before .before .before .before .before .before .before .before .before .before .before .before .before .before .before .before .before .before .before .before .args .payload)) in
-    let out = now (c .before .before .before .before .before .before .before .before .before .before .before .before .before .before .before .before .before .before .before .before .before .args .out) in
-    let frame = dataFrame (s .stamp) (s .number .0) (s .elapsed .0) (now (c .before .before .before .before .before .before .before .before .before .before .before .before .before .before .before .before .before .before .before .before .before .args .payload)) in
-    let few : s .number .0 < 65535 = c .before .before .before .before .before .before .before .before .before .before .before .before .if4 .left in
-    let short : l ≤ 4095 = c .before .before .before .before .before .before .before .before .before .before .before .before .before .before .if3 .left in
-    let room : 11 + l ≤ length out = c .before .before .before .before .before .before .before .if7 .left in
+returns-7 c =
+    let s = c .before .before .before .before .before .before .before .before .before .before .before .before .before .before .before .before .before .before .before .args .s in
+    let g = sound (c .before .before .before .before .before .before .before .before .before .before .before .before .before .before .before) in
+    let o = open-still (c .before .before .before .before .before .before .before .before .before .before .before .before .before) in
+    let l = length (now (c .before .before .before .before .before .before .before .before .before .before .before .before .before .before .before .before .before .before .before .args .payload)) in
+    let out = now (c .before .before .before .before .before .before .before .before .before .before .before .before .before .before .before .before .before .before .before .args .out) in
+    let frame = dataFrame (s .stamp) (s .number .0) (s .elapsed .0) (now (c .before .before .before .before .before .before .before .before .before .before .before .before .before .before .before .before .before .before .before .args .payload)) in
+    let few : s .number .0 < 65535 = c .before .before .before .before .before .before .before .before .before .before .if4 .left in
+    let short : l ≤ 4095 = c .before .before .before .before .before .before .before .before .before .before .before .before .if3 .left in
+    let room : 11 + l ≤ length out = c .before .before .before .before .before .before .before .if6 .left in
     let w = data-written s (undamaged s g) l (length out) few short room in
     let e = c .before .before .write-data .ensures in
     written
-    (simp (g, o, le-ltb _ _ short, lt-leb _ _ few, lt-leb _ _ (c .before .before .before .before .before .before .before .before .before .before .if5 .left), le-ltb _ _ (c .before .before .before .before .before .before .before .before .if6 .left), le-ltb _ _ room))
+    (simp (g, o, le-ltb _ _ short, lt-leb _ _ few, lt-leb _ _ (c .before .before .before .before .before .before .before .before .if5 .left), le-ltb _ _ room))
     (e .says ∙ ap writtenPaper w)
     (c .before .before .before .before .before .before .with-packet .ensures)
     (e .leaves ∙ ap (λ (x : Written). after x frame out) w)
@@ -172,10 +157,7 @@ sent-spec =
     add-if6
     send-refused-requires-6
     returns-6
-    add-if7
-    send-refused-requires-7
-    returns-7
     with-packet-requires
     write-data-requires
     same-length
-    returns-8)
+    returns-7)
