@@ -7,7 +7,7 @@ use lib.Dec.{ltb, leb, eqb}
 use lib.ListN.{length}
 use Rattle.units.specs.Limits.{lastStamp}
 use Rattle.fields.proofs.Choosing.{whichever}
-use Rattle.fields.proofs.Tests.{or-true}
+use Rattle.fields.proofs.Tests.{both, and-yes, or-true}
 use Rattle.frame.specs.declared.ClosingPdu.{ClosingPdu}
 use Rattle.frame.specs.declared.DataPdu.{DataPdu}
 use Rattle.frame.specs.declared.Read.{Read}
@@ -27,7 +27,7 @@ use Rattle.reception.specs.Reporting.{Gap, ReportPaper, gapsOf, gapsAfter, repo
 use Rattle.reception.specs.Several.{hearSequence, numbersAfter}
 use Rattle.several.specs.Rest.{HearsSequence}
 use Rattle.demands.specs.Demand1.{among, carries, ofFresh, ofHearingMany, ofJoining, ofReport, ofReading, ofHearing, Leaves}
-use Rattle.demands.proofs.Refusals.{accepted-of, no-zero, among-more, carried-on, read-carries}
+use Rattle.demands.proofs.Refusals.{accepted-of, no-zero, among-more, read-carries}
 
 -- fresh records, and hearing
 abbrev pub OutcomeLeaves : List ℕ → Kept → Outcome → Type 0
@@ -68,9 +68,9 @@ read-leaves : (k : Kept) (bearer period : ℕ) (x : Read) → carries ofReading 
     → OutcomeLeaves ofHearing k (hearRead k bearer period x)
 unfolding hearRead readPaper takenPaper among
 read-leaves k bearer period (NotRead r) c =
-    let more : among ofReading (r .number) ≡ true → among ofHearing (r .number) ≡ true =
-    λ e. rw (among-more ofReading (13 ∷ 9 ∷ 10 ∷ 11 ∷ []) (r .number) e) (or-true (eqb 14 (r .number))) in
-    (carried-on (among ofReading (r .number)) _ _ more c, λ _. refl)
+    let p = both (among ofReading (r .number)) _ c in
+    let more = among-more ofReading (13 ∷ 9 ∷ 10 ∷ 11 ∷ []) (r .number) (p .0) in
+    (and-yes {a = among ofHearing (r .number)} (rw more (or-true (eqb 14 (r .number)))) (p .1), λ _. refl)
 read-leaves k bearer period (Data d) c = whichever (OutcomeLeaves ofHearing k) _ _ (damagedKept k) (refl, λ _. refl) (λ _. packet-leaves k bearer period d)
 read-leaves k bearer period (Closing p) c = whichever (OutcomeLeaves ofHearing k) _ _ (damagedKept k) (refl, λ _. refl) (λ _. closing-leaves k bearer period p)
 read-leaves k bearer period (ClosingWithLengths p) c = whichever (OutcomeLeaves ofHearing k) _ _ (damagedKept k) (refl, λ _. refl) (λ _. closing-leaves k bearer period p)

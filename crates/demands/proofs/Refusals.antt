@@ -3,12 +3,13 @@
 use Prim.Native.Nat.{ℕ, zero, suc, _+_}
 use native.Mathlib.Omega.{arith}
 use mathlib.Core.Path.{_≡_, refl, sym, ap, _∙_}
-use mathlib.Core.Bool.{Bool, true, false, _&&_, _||_, false≢true}
+use mathlib.Core.Bool.{Bool, true, false, _||_, false≢true}
 use mathlib.Core.List.{List, [], _∷_, _++_}
 use lib.Dec.{ltb, leb, eqb}
 use lib.ListN.{length}
 use Rattle.units.specs.Limits.{lastStamp, mostPayload}
 use Rattle.fields.proofs.Choosing.{whichever}
+use Rattle.fields.proofs.Tests.{both, and-yes}
 use Rattle.clock.specs.declared.Moment.{Moment}
 use Rattle.clock.specs.declared.DueTime.{DueTime}
 use Rattle.clock.specs.Clock.{past, stampOf as momentOf, dueAt}
@@ -78,18 +79,15 @@ among-more (x ∷ xs) ys n e = go (eqb x n) (among-more xs ys n) e
     go true h q = refl
     go false h q = h q
 
--- and stands in the table all the same
-pub carried-on : (a b t : Bool) → (a ≡ true → b ≡ true) → (a && t) ≡ true → (b && t) ≡ true
-carried-on true b t h e = rw (h refl) e
-carried-on false b t h e = absurd (false≢true e)
-
 -- lengths
 abbrev ListCarries : Listed → Type 0
 ListCarries x = carries ofLengths (listedPaper x .number) (listedPaper x .accepted) ≡ true
 
 listed-carries : (x : Read) (room : ℕ) → ReadCarries x → ListCarries (listLengths x room)
 unfolding listLengths readPaper listedPaper among
-listed-carries (NotRead r) room c = carried-on (among ofReading (r .number)) _ _ (among-more ofReading (12 ∷ []) (r .number)) c
+listed-carries (NotRead r) room c =
+    let p = both (among ofReading (r .number)) _ c in
+    and-yes (among-more ofReading (12 ∷ []) (r .number) (p .0)) (p .1)
 listed-carries (Closing p) room c = refl
 listed-carries (Data d) room c = refl
 listed-carries (ClosingWithLengths p) room c = whichever ListCarries _ _ (ltb room (p .number .0)) refl (λ _. refl)

@@ -42,7 +42,7 @@ among [] n = false
 among (m ∷ ms) n = eqb m n || among ms n
 
 -- "A refusal carries its number from the table": a call that took nothing has one of these numbers, which stands in the table, and one that
--- did has 0
+-- took something has 0
 abbrev pub carries : List ℕ → ℕ → ℕ → Bool
 carries numbers number taken = cond (eqb taken 0) (among numbers number && among refusals number) (eqb number 0)
 

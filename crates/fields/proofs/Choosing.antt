@@ -42,6 +42,6 @@ pub data Comes {A : Type 0} (refusal : ℕ → A) (G : Type 0) (a : A) : A → T
   accepted : G → Comes refusal G a a
 
 -- so what holds of every refusal, and of what stands behind where G holds, holds of the chain
-pub either : {A : Type 0} {refusal : ℕ → A} {G : Type 0} {a x : A} (P : A → Type 0) → Comes refusal G a x → ((n : ℕ) → P (refusal n)) → (G → P a) → P x
-either P (refused n) p q = p n
-either P (accepted g) p q = q g
+pub whatever : {A : Type 0} {refusal : ℕ → A} {G : Type 0} {a x : A} (P : A → Type 0) → Comes refusal G a x → ((n : ℕ) → P (refusal n)) → (G → P a) → P x
+whatever P (refused n) p q = p n
+whatever P (accepted g) p q = q g

@@ -7,7 +7,7 @@ use lib.ListN.{length}
 use borrow.Author.Tests.{lt-ltb, le-ltb}
 use Rattle.units.specs.declared.Refusal.{Refusal}
 use Rattle.units.specs.Refusals.{noRoom, senderDamaged}
-use Rattle.fields.proofs.Choosing.{either}
+use Rattle.fields.proofs.Choosing.{whatever}
 use Rattle.frame.specs.declared.Written.{Written}
 use Rattle.frame.specs.declared.Written.the-variants.{Done, Refused}
 use Rattle.frame.specs.Paper.{writtenPaper}
@@ -50,16 +50,16 @@ FewSent t = Few (t .answer)
 
 pub few-sent : (s : Sender) (l room : ℕ) → FewSent (dataCall s l room)
 unfolding writtenPaper
-few-sent s l room = either FewSent (data-comes s l room) (λ _. omega arith) (λ g. omega (arith, g .short))
+few-sent s l room = whatever FewSent (data-comes s l room) (λ _. omega arith) (λ g. omega (arith, g .short))
 
 pub few-closed : (s : Sender) (room : ℕ) → FewSent (closeCall s room)
 unfolding writtenPaper
-few-closed s room = either FewSent (close-comes s room) (λ _. omega arith) (λ _. omega arith)
+few-closed s room = whatever FewSent (close-comes s room) (λ _. omega arith) (λ _. omega arith)
 
 pub few-closed-with : (s : Sender) (ls : List ℕ) (room : ℕ) → FewSent (closeWithCall s ls room)
 unfolding writtenPaper
 few-closed-with s ls room =
-    either FewSent (close-with-comes s ls room) (λ _. omega arith)
+    whatever FewSent (close-with-comes s ls room) (λ _. omega arith)
     (λ g. lengths-few ls (s .number .0) (s .elapsed .0) (g .listed) (undamaged s (g .whole) .number))
 
 -- a list too short for a state, and one that has room

@@ -1,5 +1,5 @@
 -- What each call of the sender comes to. Refused, it keeps the sender; accepted, every test of its order was passed, and the next sender is
--- known. Callers use these laws, and not the text of the calls. Assumes nothing.
+-- known. Other crates use these laws and not the text of the calls, but for `demands`, which is about the orders. Assumes nothing.
 use Prim.Native.Nat.{ℕ, _+_, _≤_, _<_}
 use mathlib.Core.Path.{_≡_, refl}
 use mathlib.Core.List.{List}

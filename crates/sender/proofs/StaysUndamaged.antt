@@ -6,7 +6,7 @@ use mathlib.Core.Bool.{false}
 use native.Mathlib.Omega.{arith}
 use borrow.Author.Tests.{le-ltb}
 use Rattle.units.specs.Limits.{lastStamp, mostPayload, mostInSequence, mostPeriodPackets}
-use Rattle.fields.proofs.Choosing.{either}
+use Rattle.fields.proofs.Choosing.{whatever}
 use Rattle.frame.specs.declared.ClosingPdu.{ClosingPdu}
 use Rattle.frame.specs.Counts.{someOf, closingWrong}
 use Rattle.frame.proofs.Said.{Possible}
@@ -67,17 +67,17 @@ module _ (s : Sender) (w : Whole s) where
   Sent t = Whole (t .sender)
 
   pub open-undamaged : (stamp : ℕ) → Whole (openCall s stamp .sender)
-  open-undamaged stamp = either After (open-comes s stamp) (λ _. w) (λ g. begun-undamaged s stamp (undamaged s w) (g .stamped))
+  open-undamaged stamp = whatever After (open-comes s stamp) (λ _. w) (λ g. begun-undamaged s stamp (undamaged s w) (g .stamped))
 
   pub renew-undamaged : Whole (renewCall s .sender)
-  renew-undamaged = either After (renew-comes s) (λ _. w) (λ _. fresh-undamaged)
+  renew-undamaged = whatever After (renew-comes s) (λ _. w) (λ _. fresh-undamaged)
 
   pub data-undamaged : (l room : ℕ) → Whole (dataCall s l room .sender)
   data-undamaged l room =
-      either Sent (data-comes s l room) (λ _. w) (λ g. advanced-undamaged s l (undamaged s w) (g .short) (g .number) (g .packets))
+      whatever Sent (data-comes s l room) (λ _. w) (λ g. advanced-undamaged s l (undamaged s w) (g .short) (g .number) (g .packets))
 
   pub close-undamaged : (room : ℕ) → Whole (closeCall s room .sender)
-  close-undamaged room = either Sent (close-comes s room) (λ _. w) (λ _. closed-undamaged s (undamaged s w))
+  close-undamaged room = whatever Sent (close-comes s room) (λ _. w) (λ _. closed-undamaged s (undamaged s w))
 
   pub close-with-undamaged : (ls : List ℕ) (room : ℕ) → Whole (closeWithCall s ls room .sender)
-  close-with-undamaged ls room = either Sent (close-with-comes s ls room) (λ _. w) (λ _. closed-undamaged s (undamaged s w))
+  close-with-undamaged ls room = whatever Sent (close-with-comes s ls room) (λ _. w) (λ _. closed-undamaged s (undamaged s w))

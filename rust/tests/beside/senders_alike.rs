@@ -206,16 +206,19 @@ fn any_state(noise: &mut Noise) -> State {
 
 #[test]
 fn senders_at_their_limits_take_calls_alike() {
-    let (mut noise, mut tally) = (Noise(92), Tally::default());
+    let (mut noise, mut tally, mut last_packets) = (Noise(92), Tally::default(), 0);
     for _ in 0..SENT[1] {
         let mut state = any_state(&mut noise);
         assert!(!state.damaged(), "{state:?}");
         if one_in(&mut noise, 8) {
             state.0.extend([9, u64::MAX]);
         }
+        let packets = state.0[4];
         tally.add(call_any(&mut noise, &mut state));
         assert!(!state.damaged(), "a call damaged the state: {state:?}");
+        last_packets += usize::from((packets, state.0[4]) == (16_777_214, 16_777_215));
     }
+    assert!(last_packets > 1_000, "only {last_packets} periods got their last packet");
     // 19 was taken out, since 16,777,215 packets carry fewer than 2^40 octets: nothing gives it.
     assert!(tally.calls() == SENT[1] && tally.came(&[0, 5, 12, 15, 16, 17, 18, 20, 22], 1_000) && tally.0[19] == 0, "{tally:?}");
 }
