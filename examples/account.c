@@ -98,7 +98,7 @@ static void make_fresh(struct record *r, uint32_t stamp)
                              r->sizes, CAPACITY), "a fresh record");
 }
 
-static unsigned hear(struct record *r, const struct frame *f)
+static uint64_t hear(struct record *r, const struct frame *f)
 {
     return quimdoral_hear(r->head, QUIMDORAL_HEAD_NUMBERS, r->marks, CAPACITY, r->elapsed, CAPACITY, r->sizes, CAPACITY,
                           BEARER, PERIOD, f->octets, f->length);
@@ -154,7 +154,7 @@ int main(void)
     accepted(hear(&north, &frames[PACKETS]), "north, closing");
     spoilt = frames[1];
     spoilt.octets[spoilt.length - 1] ^= 1u;
-    expect(hear(&north, &spoilt) == QUIMDORAL_PAYLOAD_CHECK_WRONG, "a spoilt frame");
+    expect(QUIMDORAL_REFUSAL(hear(&north, &spoilt)) == QUIMDORAL_PAYLOAD_CHECK_WRONG, "a spoilt frame");
 
     /* South: packets 2, 1 and 0, in this order and one of them twice, and no closing. */
     make_fresh(&south, stamp);

@@ -11,6 +11,9 @@ static const uint8_t a[] = {0x10, 0, 0, 0, 0, 0, 0, 0, 0, 0x38, 0x00};
 static const uint8_t b[] = {0x10, 0, 0, 0, 0, 0, 0, 0, 0, 0x3A, 0x33, 0x01};
 static const uint8_t c[] = {0, 0, 0, 0, 1, 0, 0, 0, 1, 0, 0, 1, 0, 0, 0, 0, 1, 0x9C};
 static const uint8_t d[] = {0x30, 0, 0, 0, 1, 0, 0, 0, 1, 0, 0, 1, 0, 0, 0, 0, 1, 0x00, 0x31, 0x00, 0x10};
+/* C with the first bit of its header check turned, and D with the payload check that document 01 prints: each has one wrong check. */
+static const uint8_t c_wrong[] = {0, 0, 0, 0, 1, 0, 0, 0, 1, 0, 0, 1, 0, 0, 0, 0, 1, 0x1C};
+static const uint8_t d_wrong[] = {0x30, 0, 0, 0, 1, 0, 0, 0, 1, 0, 0, 1, 0, 0, 0, 0, 1, 0x02, 0x02, 0x00, 0x10};
 static const uint8_t payload[] = {0x01};
 static const uint16_t lengths[] = {1};
 static int wrong;
@@ -28,6 +31,21 @@ static void expect_frame(uint64_t answer, const uint8_t *out, const uint8_t *fra
 {
     expect(QUIMDORAL_REFUSAL(answer) == 0 && QUIMDORAL_VALUE(answer) == length, what);
     expect(memcmp(out, frame, length) == 0 && out[length] == 0xEE, what);
+}
+
+/* The answers to the frames with a wrong check: the number of the refusal, the check found, the check worked out, and nothing above. */
+static void expect_c_wrong(uint64_t answer, const char *what)
+{
+    expect(QUIMDORAL_REFUSAL(answer) == QUIMDORAL_HEADER_CHECK_WRONG, what);
+    expect(QUIMDORAL_FOUND(answer) == 7 && QUIMDORAL_WORKED_OUT(answer) == 39, what);
+    expect(QUIMDORAL_VALUE(answer) == 7 + 65536ull * 39, what);
+}
+
+static void expect_d_wrong(uint64_t answer, const char *what)
+{
+    expect(QUIMDORAL_REFUSAL(answer) == QUIMDORAL_PAYLOAD_CHECK_WRONG, what);
+    expect(QUIMDORAL_FOUND(answer) == 514 && QUIMDORAL_WORKED_OUT(answer) == 49, what);
+    expect(QUIMDORAL_VALUE(answer) == 514 + 65536ull * 49, what);
 }
 
 static void checks(void)
@@ -49,6 +67,19 @@ static void reading(void)
     expect(quimdoral_read_lengths(d, sizeof d, list, 0) == QUIMDORAL_NO_ROOM && list[0] == 9, "no room for lengths");
     expect(quimdoral_read_lengths(d, sizeof d, list, 2) == 256 && list[0] == 1 && list[1] == 9, "the lengths of D");
     expect(quimdoral_read_lengths(a, sizeof a, list, 2) == 0, "the lengths of A");
+}
+
+static void reading_wrong_checks(void)
+{
+    uint64_t said[] = {9, 9, 9, 9, 9, 9, 9};
+    uint16_t list[] = {9};
+
+    expect_c_wrong(quimdoral_read_frame(c_wrong, sizeof c_wrong, said, 7), "the header check of C, read");
+    expect_d_wrong(quimdoral_read_frame(d_wrong, sizeof d_wrong, said, 7), "the payload check of D, read");
+    expect_d_wrong(quimdoral_read_frame(d_wrong, sizeof d_wrong, said, 0), "the same without room for what a frame says");
+    expect_c_wrong(quimdoral_read_lengths(c_wrong, sizeof c_wrong, list, 1), "the header check of C, read for lengths");
+    expect_d_wrong(quimdoral_read_lengths(d_wrong, sizeof d_wrong, list, 1), "the payload check of D, read for lengths");
+    expect(said[0] == 9 && list[0] == 9, "wrong checks write nothing");
 }
 
 static void writing(void)
@@ -95,7 +126,8 @@ static void records(void)
     static const uint32_t ends[] = {sizeof b, sizeof b + sizeof c};
     uint8_t row[sizeof b + sizeof c];
     uint64_t head[6], far_head[6], figures[7], gap_octets[1];
-    uint8_t marks[2], far_marks[2], numbers[2];
+    uint64_t answers[3] = {9, 9, 9};
+    uint8_t marks[2], far_marks[2];
     uint32_t elapsed[2], far_elapsed[2], firsts[1], counts[1];
     uint16_t sizes[2], far_sizes[2];
 
@@ -107,8 +139,10 @@ static void records(void)
     expect(quimdoral_hear(head, 6, marks, 2, elapsed, 2, sizes, 2, 7, 3, c, sizeof c) == 0 && head[3] == 1, "C heard");
     expect(quimdoral_report(head, 6, marks, 2, elapsed, 2, sizes, 2, firsts, 1, counts, 1, gap_octets, 1, figures, 7) == 0, "a report");
     expect(figures[QUIMDORAL_FIGURE_MISSING] == 1 && firsts[0] == 0 && counts[0] == 1 && gap_octets[0] == 1, "the gap");
-    expect(quimdoral_hear_all(7, 3, 0, far_head, 6, far_marks, 2, far_elapsed, 2, far_sizes, 2, row, sizeof row, ends, 2, numbers, 2) == 0
-           && numbers[0] == 0 && numbers[1] == 0 && far_marks[0] == 1, "B and C heard at once");
+    expect(quimdoral_hear_all(7, 3, 0, far_head, 6, far_marks, 2, far_elapsed, 2, far_sizes, 2, row, sizeof row, ends, 2, answers, 1)
+           == QUIMDORAL_NO_ROOM && answers[0] == 9, "no room for the answers");
+    expect(quimdoral_hear_all(7, 3, 0, far_head, 6, far_marks, 2, far_elapsed, 2, far_sizes, 2, row, sizeof row, ends, 2, answers, 3) == 0
+           && answers[0] == 0 && answers[1] == 0 && answers[2] == 9 && far_marks[0] == 1, "B and C heard at once");
     expect(quimdoral_join(head, 6, marks, 2, elapsed, 2, sizes, 2, far_head, 6, far_marks, 2, far_elapsed, 2, far_sizes, 2) == 0
            && marks[0] == 1 && sizes[0] == 1, "the join");
     far_sizes[0] = 0;
@@ -118,6 +152,32 @@ static void records(void)
     far_marks[0] = 0;
     expect(QUIMDORAL_VALUE(quimdoral_join(head, 6, marks, 2, elapsed, 2, sizes, 2, far_head, 6, far_marks, 2, far_elapsed, 2, far_sizes, 2))
            == QUIMDORAL_CLOSING_NAMED, "the closing contradicts");
+}
+
+/* One by one and at once: a wrong check is told, and nothing is held of its frame. */
+static void hearing_wrong_checks(void)
+{
+    enum { C_END = sizeof c_wrong, D_END = C_END + sizeof d_wrong, A_END = D_END + sizeof a };
+    static const uint32_t ends[] = {C_END, D_END, A_END, A_END};
+    uint8_t row[A_END];
+    uint64_t head[6], answers[] = {9, 9, 9, 9, 9};
+    uint8_t marks[2];
+    uint32_t elapsed[2];
+    uint16_t sizes[2];
+
+    expect(quimdoral_fresh(7, 3, 0, head, 6, marks, 2, elapsed, 2, sizes, 2) == 0, "a fresh record for wrong checks");
+    expect_c_wrong(quimdoral_hear(head, 6, marks, 2, elapsed, 2, sizes, 2, 7, 3, c_wrong, sizeof c_wrong), "the header check of C, heard");
+    expect_d_wrong(quimdoral_hear(head, 6, marks, 2, elapsed, 2, sizes, 2, 7, 3, d_wrong, sizeof d_wrong), "the payload check of D, heard");
+    expect(head[QUIMDORAL_HEAD_CLOSED] == 0 && marks[0] == 0, "wrong checks leave a record");
+    memcpy(row, c_wrong, sizeof c_wrong);
+    memcpy(row + C_END, d_wrong, sizeof d_wrong);
+    memcpy(row + D_END, a, sizeof a);
+    expect(quimdoral_hear_all(7, 3, 0, head, 6, marks, 2, elapsed, 2, sizes, 2, row, sizeof row, ends, 4, answers, 5) == 0, "all at once");
+    expect_c_wrong(answers[0], "the header check of C, heard with others");
+    expect_d_wrong(answers[1], "the payload check of D, heard with others");
+    expect(answers[2] == 0 && marks[0] == 1, "A heard behind them");
+    expect(answers[3] == QUIMDORAL_TOO_SHORT && answers[4] == 9, "an empty frame behind it, and an answer that is no frame's");
+    expect(head[QUIMDORAL_HEAD_CLOSED] == 0, "wrong checks among others leave a record");
 }
 
 /* A join of a record with a copy of itself changes nothing; in place, it would write to what it reads. */
@@ -165,10 +225,10 @@ static void nothing_lent(void)
     const uint8_t *octets = quimdoral_lend_const_u8(NULL);
     const uint16_t *no_lengths = quimdoral_lend_const_u16(NULL);
     uint64_t head[6], far_head[6], figures[7];
-    uint64_t *gap_octets = quimdoral_lend_u64(NULL);
+    uint64_t *gap_octets = quimdoral_lend_u64(NULL), *answers = gap_octets;
     uint32_t *elapsed = quimdoral_lend_u32(NULL), *firsts = elapsed;
     uint16_t *sizes = quimdoral_lend_u16(NULL);
-    uint8_t *marks = quimdoral_lend_u8(NULL), *numbers = marks;
+    uint8_t *marks = quimdoral_lend_u8(NULL);
     uint8_t out[32];
 
     memset(out, 0xEE, sizeof out);
@@ -183,7 +243,7 @@ static void nothing_lent(void)
     expect(quimdoral_fresh(7, 3, 0, head, 6, marks, 0, elapsed, 0, sizes, 0) == 0, "a record of capacity 0");
     expect(quimdoral_hear(head, 6, marks, 0, elapsed, 0, sizes, 0, 7, 3, c, sizeof c) == QUIMDORAL_BEYOND_CAPACITY, "no place for C");
     expect(quimdoral_hear_all(7, 3, 0, far_head, 6, marks, 0, elapsed, 0, sizes, 0, octets, 0, quimdoral_lend_const_u32(NULL), 0,
-                              numbers, 0) == 0, "no frames heard");
+                              answers, 0) == 0, "no frames heard");
     expect(quimdoral_join(head, 6, marks, 0, elapsed, 0, sizes, 0, far_head, 6, octets, 0, quimdoral_lend_const_u32(NULL), 0,
                           no_lengths, 0) == 0, "two records of capacity 0");
     expect(quimdoral_join(head, 6, marks, 0, elapsed, 0, sizes, 0, quimdoral_lend_const_u64(NULL), 0, octets, 0,
@@ -206,9 +266,11 @@ int main(void)
 {
     checks();
     reading();
+    reading_wrong_checks();
     writing();
     sending();
     records();
+    hearing_wrong_checks();
     joined_with_itself();
     lending();
     nothing_lent();

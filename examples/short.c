@@ -17,7 +17,7 @@ int main(void)
     if (refused == 0)
         refused = quimdoral_fresh(7, 3, 4200, head, 6, marks, 8, elapsed, 8, sizes, 8);
     if (refused == 0)
-        refused = quimdoral_hear(head, 6, marks, 8, elapsed, 8, sizes, 8, 7, 3, frame, QUIMDORAL_VALUE(written));
+        refused = QUIMDORAL_REFUSAL(quimdoral_hear(head, 6, marks, 8, elapsed, 8, sizes, 8, 7, 3, frame, QUIMDORAL_VALUE(written)));
     if (refused == 0)
         refused = quimdoral_report(head, 6, marks, 8, elapsed, 8, sizes, 8, firsts, 4, counts, 4, octets, 4, figures, 7);
     if (refused == 0)

@@ -19,6 +19,11 @@
  * Answers. Most functions answer 0 or a refusal's number. Those that answer a value beside that put both into one number: the lowest
  * eight bits are the refusal's number, or 0, and the bits above are the value, or 0. QUIMDORAL_REFUSAL and QUIMDORAL_VALUE take them apart.
  *
+ * Where reading or hearing refuses a frame with 4 or 7, the value has both checks: the one found in the frame, and the one worked out over
+ * the octets that it covers. QUIMDORAL_FOUND and QUIMDORAL_WORKED_OUT take them out. They differ, and either may be 0. They tell a maker's
+ * wrong polynomial from a noisy link: a wrong polynomial gives the same difference for the same octets every time, noise does not. With any
+ * other refusal of these functions both are 0. So compare QUIMDORAL_REFUSAL of such an answer with a refusal's number, not the answer itself.
+ *
  * Packets and octets are counted apart: no number here is a sum of both.
  */
 #ifndef QUIMDORAL_H
@@ -34,6 +39,10 @@ extern "C" {
 /* The two parts of an answer with a value. */
 #define QUIMDORAL_REFUSAL(answer) ((unsigned)((answer) & 255u))
 #define QUIMDORAL_VALUE(answer) ((uint64_t)(answer) >> 8)
+
+/* The two parts of the value with refusals 4 and 7 of reading and hearing: the check found in the frame, and the check worked out. */
+#define QUIMDORAL_FOUND(answer) ((unsigned)(((answer) >> 8) & 65535u))
+#define QUIMDORAL_WORKED_OUT(answer) ((unsigned)(((answer) >> 24) & 65535u))
 
 /*
  * Slices of nothing. Many callers in C give NULL and 0 where they have nothing; here that is an error, which no test in the library could
@@ -57,10 +66,10 @@ enum {
     QUIMDORAL_TOO_SHORT = 1,           /* frame empty, or shorter than its type's least size */
     QUIMDORAL_TYPE_TWO = 2,            /* Type 2, which M1 does not have */
     QUIMDORAL_TYPE_UNKNOWN = 3,        /* Types 4 to 15 */
-    QUIMDORAL_HEADER_CHECK_WRONG = 4,
+    QUIMDORAL_HEADER_CHECK_WRONG = 4,  /* told with the check found and the check worked out, six bits each */
     QUIMDORAL_STAMP_TOO_HIGH = 5,      /* stamp above 59,999 */
     QUIMDORAL_SIZE_WRONG = 6,          /* a size that the frame's type does not have */
-    QUIMDORAL_PAYLOAD_CHECK_WRONG = 7,
+    QUIMDORAL_PAYLOAD_CHECK_WRONG = 7, /* told with the check found and the check worked out, ten bits each */
     QUIMDORAL_COUNTS_IMPOSSIBLE = 8,   /* counts that no sending has, or that are too wide for their fields */
     QUIMDORAL_OTHER_SEQUENCE = 9,      /* bearer, period or stamp is another sequence's */
     QUIMDORAL_BEYOND_CAPACITY = 10,    /* packet number at or above capacity, or closing count above it */
@@ -105,7 +114,8 @@ uint16_t quimdoral_payload_check(const uint8_t *octets, size_t octets_length);
  * quimdoral_read_frame: what a frame says, as seven numbers in front of `said`.
  *
  * Answers 0, or a refusal's number, in this order: 1 (empty), 2, 3, 1 (too short), 4, 5, 6, 7, 8, then 12 where `said` has fewer than
- * seven places. `frame` is only read. A data PDU has no totals, a closing PDU no payload: zeros stand there.
+ * seven places. With 4 and 7 the answer has a value: the check found and the check worked out. `frame` is only read. A data PDU has no
+ * totals, a closing PDU no payload: zeros stand there.
  */
 enum {
     QUIMDORAL_SAID_KIND = 0,     /* one more than the PDU type: 1 closing, 2 data, 4 closing with lengths */
@@ -117,14 +127,14 @@ enum {
     QUIMDORAL_SAID_PAYLOAD = 6,  /* data: octets of its payload, which stands from the twelfth octet of the frame on */
     QUIMDORAL_SAID_NUMBERS = 7
 };
-uint8_t quimdoral_read_frame(const uint8_t *frame, size_t frame_length, uint64_t *said, size_t said_length);
+uint64_t quimdoral_read_frame(const uint8_t *frame, size_t frame_length, uint64_t *said, size_t said_length);
 
 /*
  * quimdoral_read_lengths: the payload lengths that a Type 3 frame carries, in front of `lengths`. Frames of Types 0 and 1 are accepted and
  * have none.
  *
  * Answers a value: how many lengths were written. Refuses in reading's order: 1, 2, 3, 1, 4, 5, 6, 7, 8, then 12 where the lengths have no
- * room. `frame` is only read.
+ * room. With 4 and 7 the value is the check found and the check worked out, as of quimdoral_read_frame. `frame` is only read.
  */
 uint64_t quimdoral_read_lengths(const uint8_t *frame, size_t frame_length, uint16_t *lengths, size_t lengths_length);
 
@@ -233,21 +243,22 @@ uint8_t quimdoral_fresh(uint32_t bearer, uint32_t period, uint32_t stamp,
                         uint32_t *elapsed, size_t elapsed_length, uint16_t *sizes, size_t sizes_length);
 
 /* quimdoral_hear: takes a frame that came in a bearer and a period. What is held already is accepted and changes nothing. `frame` is only
- * read. Answers 0, or a refusal's number, in this order: 14, reading's order (1, 2, 3, 1, 4, 5, 6, 7, 8), 13, 9, 10, 11. */
-uint8_t quimdoral_hear(uint64_t *head, size_t head_length, uint8_t *marks, size_t marks_length,
-                       uint32_t *elapsed, size_t elapsed_length, uint16_t *sizes, size_t sizes_length,
-                       uint32_t bearer, uint32_t period, const uint8_t *frame, size_t frame_length);
+ * read. Answers 0, or a refusal's number, in this order: 14, reading's order (1, 2, 3, 1, 4, 5, 6, 7, 8), 13, 9, 10, 11. With 4 and 7 the
+ * answer has a value: the check found and the check worked out, as of quimdoral_read_frame. */
+uint64_t quimdoral_hear(uint64_t *head, size_t head_length, uint8_t *marks, size_t marks_length,
+                        uint32_t *elapsed, size_t elapsed_length, uint16_t *sizes, size_t sizes_length,
+                        uint32_t bearer, uint32_t period, const uint8_t *frame, size_t frame_length);
 
 /* quimdoral_hear_all: makes an empty record of a sequence and takes many frames into it, one after the other, which is quicker than a call
  * for each. The frames stand in one row of octets; ends[i] is the place behind the i-th, which begins where the one before it ends. A place
- * beyond the octets is taken as their end, and one before the frame's begin gives an empty frame. The number of the answer to each frame,
- * as of quimdoral_hear, is written in front of `numbers`. `octets` and `ends` are only read. Answers 0 where the frames were taken or
- * refused one by one, or the number of the refusal of all, in this order: 14, 5, 12 (fewer places in `numbers` than frames). */
+ * beyond the octets is taken as their end, and one before the frame's begin gives an empty frame. The answer to each frame, as of
+ * quimdoral_hear, with the checks too, is written in front of `answers`. `octets` and `ends` are only read. Answers 0 where the frames were
+ * taken or refused one by one, or the number of the refusal of all, in this order: 14, 5, 12 (fewer places in `answers` than frames). */
 uint8_t quimdoral_hear_all(uint32_t bearer, uint32_t period, uint32_t stamp,
                            uint64_t *head, size_t head_length, uint8_t *marks, size_t marks_length,
                            uint32_t *elapsed, size_t elapsed_length, uint16_t *sizes, size_t sizes_length,
                            const uint8_t *octets, size_t octets_length, const uint32_t *ends, size_t ends_length,
-                           uint8_t *numbers, size_t numbers_length);
+                           uint64_t *answers, size_t answers_length);
 
 /* quimdoral_join: adds to the left record what the right one heard. The right one, whose names begin with r_, is only read. Both are of one
  * sequence and capacity. Answers 0, or a refusal's number, in this order: 14, 13, 9, 11. With 11 the answer has a value: the lowest packet

@@ -1,6 +1,7 @@
 """The reception record as a plain dict of packets, its report, and the printed account.
 
-Written from document 01 alone. `python3 second/account.py < items` prints what document 01's program prints.
+Written from document 01 alone, and the checks behind refusals 4 and 7 from request 6 of document 02.
+`python3 second/account.py < items` prints what document 01's program prints.
 """
 
 import sys
@@ -150,7 +151,7 @@ def take(record, place, kind, body):
     try:
         record.hear(*record.key[:2], body)
     except Refused as refused:
-        return record, [line("refused", place, refused.number)]
+        return record, [line("refused", place, refused.number, *refused.checks)]
     return record, []
 
 

@@ -1,17 +1,20 @@
 """Inputs for the printed account: sequences with losses, repeats and disorder, contradictions, hostile frames and bad input.
 
-A case by hand says which refusals it is meant to print, in order; making stops where the account says otherwise.
+A case by hand says which refusals it is meant to print, in order, each as a frame's case does; making stops where the account says
+otherwise.
 """
 
 from typing import NamedTuple
 
 import examples
-from frame_cases import all_cases, closing, data, flipped, listing
-from mixture import Sequence, frame_item, item, key, mixture
+from draw import Draw
+from frame_cases import (ALL_SIX, ALL_TEN, UNKNOWN, check_cases, closing, data, flipped, listing, own_header, own_payload, reading_cases,
+                         wrong_header, wrong_payload)
+from mixture import Noisy, Sequence, frame_item, item, key, mixture
 from sync import LONGEST
 
-UNKNOWN = None
 CAPACITY = 4_096
+CHECK_SEED = 445  # of the accounts about checks, which came later: the others stay as they were
 
 
 class Case(NamedTuple):
@@ -37,7 +40,7 @@ def first_ones(draw):
     yield heard("the same, closed by Type 3", 0, [examples.B, examples.D])
     yield heard("a sequence without data", 0, [examples.E])
     yield heard("the same, closed by Type 3", 0, [listing(0, [])])
-    yield heard("example D as printed", 0, [examples.B, examples.D_PRINTED], [7])
+    yield heard("example D as printed", 0, [examples.B, examples.D_PRINTED], [(7, 514, 49)])
     yield Case("the greatest key", key((1 << 32) - 1, (1 << 32) - 1, 59_999) + frame_item(data(59_999, 0, 0, b"")), [])
 
 
@@ -101,7 +104,7 @@ def limits(draw):
 def refusals(draw):
     """Frames that reading refuses, most of them taken from the frames' own cases."""
     frames, meant = [], []
-    for _, case in all_cases(draw):
+    for _, case in reading_cases(draw):
         if case.meant and len(case.frame) < 120 and draw.chance(4):
             frames.append(case.frame)
             meant.append(case.meant)
@@ -146,6 +149,40 @@ def mixtures(draw):
         yield Case(f"mixture {place}", mixture(draw, 40), UNKNOWN)
 
 
+def refused_cases(name, stamp, cases):
+    """A case of one sequence that hears the frames of these cases and refuses them all."""
+    return heard(name, stamp, [case.frame for case in cases], [case.meant for case in cases])
+
+
+def checks_between(draw):
+    """Refusals of four numbers between good frames, and by turns with refusals of two."""
+    whole, frames, meant = small(draw, 8), [], []
+    for frame in whole.data + [whole.listing]:
+        header = wrong_header(frame, own_header(frame) ^ draw.between(1, ALL_SIX))
+        payload = wrong_payload(frame, own_payload(frame) ^ draw.between(1, ALL_TEN))
+        frames += [header.frame, frame, payload.frame]
+        meant += [header.meant, payload.meant]
+    yield heard("wrong checks around each frame", 100, frames, meant)
+    others = [case for _, case in reading_cases(draw) if case.meant in (1, 2, 3, 5, 6, 8) and len(case.frame) < 60]
+    wrong = [case for _, case in check_cases(draw) if len(case.frame) < 60 and draw.chance(6)]
+    by_turns = [case for each in wrong for case in (each, draw.pick(others))]
+    yield refused_cases("wrong checks and other refusals by turns", 100, by_turns)
+
+
+def checks_of_0(draw):
+    """The line has four numbers even where the check found or the check worked out is 0."""
+    yield refused_cases("checks of 0, found or worked out", 0, [
+        wrong_header(examples.E, 1), wrong_header(examples.C, 0), wrong_payload(examples.A, 1), wrong_payload(examples.B, 0),
+        wrong_payload(listing(0, []), 1), wrong_payload(examples.D, 0), wrong_header(wrong_payload(examples.B, 0).frame, 0)])
+
+
+def noisy_mixtures(draw):
+    for place in range(3):
+        yield Case(f"noisy mixture {place}", mixture(draw, 30, Noisy), UNKNOWN)
+
+
 def all_accounts(draw):
     for group in (first_ones, losses, contradictions, limits, refusals, several, bad_input, mixtures):
         yield from group(draw)
+    for group in (checks_between, checks_of_0, noisy_mixtures):
+        yield from group(Draw(CHECK_SEED))

@@ -1,4 +1,4 @@
-"""Holds this program to document 01's bench examples A to J, and to its sentences about records.
+"""Holds this program to document 01's bench examples A to J, to its sentences about records, and to what a wrong check tells.
 
 It stops at the first thing that is wrong, and otherwise says how many it looked at.
 """
@@ -19,6 +19,15 @@ D = bytes.fromhex("30 00 00 00 01 00 00 00 01 00 00 01 00 00 00 00 01 00 31 00 1
 E = bytes(18)
 F = ((B[:-1] + b"\x00", 7), (b"\x20" + B[1:], 2), (b"\x10" + bytes(9), 1))
 J = bytes(sync.LONGEST)
+# Frames with their refusal, the check found and the check worked out. Header checks are 14 in A and B, 39 in C and 0 in E. Payload
+# checks are 563 over 01, 49 over 00 10, 514 over 00 11, and 0 over zeros and over no bits.
+WRONG_CHECKS = (
+    (D_PRINTED, 7, 514, 49), (D[:17] + b"\x00\x00" + D[19:], 7, 0, 49), (D[:20] + b"\x11", 7, 49, 514), (F[0][0], 7, 563, 0),
+    (B[:9] + b"\x38\x00\x01", 7, 0, 563), (B[:9] + b"\x3B\xFF\x00", 7, 1_023, 0), (A[:9] + b"\x38\x01", 7, 1, 0),
+    (A[:9] + b"\x3A\x00", 7, 512, 0),
+    (A[:9] + b"\x00\x00", 4, 0, 14), (B[:9] + b"\x02\x33\x01", 4, 0, 14), (B[:9] + b"\x3E\x33\x01", 4, 15, 14),
+    (B[:9] + b"\xFF\xFF\x00", 4, 63, 14), (E[:17] + b"\x04", 4, 1, 0), (E[:17] + b"\xFF", 4, 63, 0), (C[:17] + b"\x03", 4, 0, 39))
+KEY = bytes.fromhex("0A 00 01 00 07 00 00 00 03 00 00 00 00 00")
 
 looked = 0
 
@@ -30,13 +39,17 @@ def same(found, meant):
         raise SystemExit(f"examples: {found!r} where {meant!r} was meant")
 
 
-def refusal(call, *given):
-    """The number with which a call is refused, 0 where it is not."""
+def told(call, *given):
+    """The number with which a call is refused and, with 4 and 7, the check found and the check worked out; 0 where it is not."""
     try:
         call(*given)
     except sync.Refused as refused:
-        return refused.number
-    return 0
+        return refused.number, *refused.checks
+    return (0,)
+
+
+def refusal(call, *given):
+    return told(call, *given)[0]
 
 
 def frames():
@@ -44,7 +57,6 @@ def frames():
     same(sync.write_data(0, 0, 0, b"\x01"), B)
     same(sync.write_closing(0, 1, 1, 1, 1), C)
     same(sync.write_lengths(0, 1, 1, 1, 1, (1,)), D)
-    same(refusal(sync.read, D_PRINTED), 7)
     same(sync.payload_check(b"\x00\x11"), 0x202)
     same(sync.read(A), sync.Data(0, 0, 0, b""))
     same(sync.read(B), sync.Data(0, 0, 0, b"\x01"))
@@ -55,6 +67,43 @@ def frames():
         same(refusal(sync.read, frame), number)
     same(sync.read(sync.write_data(0, 0, 0, J)), sync.Data(0, 0, 0, J))
     same(refusal(sync.write_data, 0, 0, 0, J + b"\x00"), 20)
+
+
+def told_above(frame, *meant):
+    """Hearing tells what reading told, and so does the account behind the item's place."""
+    same(told(account.Record(7, 3, 0).hear, 7, 3, frame), meant)
+    lines = [account.line("refused", 2, *meant), "sequence 7 3 0 open", "sent 0 0", "heard 0 0", "missing 0 0", "end"]
+    same(account.printed(KEY + len(frame).to_bytes(2, "little") + b"\x02\x00" + frame), account.text(lines))
+
+
+def wrong_checks():
+    """Found stands before worked out. Other refusals tell their number alone."""
+    for frame, *meant in WRONG_CHECKS + F[1:]:
+        same(told(sync.read, frame), tuple(meant))
+        told_above(frame, *meant)
+    told_above(sync.join_parts(sync.control_part(sync.DATA, 60_000, 0, 0), b""), 5)
+    told_above(sync.write_data(1, 0, 0, b""), 9)
+    told_above(sync.write_data(0, 4_096, 0, b""), 10)
+
+
+def divided(octets, *powers):
+    """The rest once more, by dividing the octets and the zero bits behind them as one long number."""
+    divisor, width = sum(1 << power for power in powers), max(powers)
+    rest = int.from_bytes(octets, "big") << width
+    while rest >> width:
+        rest ^= divisor << rest.bit_length() - 1 - width
+    return rest
+
+
+def found_and_worked_out(draw):
+    """Any two checks over spare bits and payload by chance: told is the first wrong one, and what `divided` gives in its place."""
+    kind = draw.pick((sync.DATA, sync.LENGTHS))
+    control = bytes([kind << 4 | draw.below(16), 0, draw.below(256)]) + bytes(sync.CONTROL_SIZE[kind] - 3)
+    part = draw.octets(draw.below(5))  # in Type 3 an extension
+    header, payload = divided(control, 6, 5, 3, 2, 1, 0), divided(part, 10, 9, 5, 4, 1, 0)
+    first, second = draw.pick((header, 0, draw.below(64))), draw.pick((payload, 0, draw.below(1_024)))
+    meant = (4, first, header) if first != header else (7, second, payload) if second != payload else (0,)
+    same(told(sync.read, control + bytes([first << 2 | second >> 8, second & 255]) + part), meant)
 
 
 def writing_order():
@@ -95,9 +144,8 @@ def ticks():
 
 
 def printed_account():
-    key = bytes.fromhex("0A 00 01 00 07 00 00 00 03 00 00 00 00 00")
     lines = ["sequence 7 3 0 closed", "sent 1 1", "heard 0 0", "missing 1 1", "gap 0 1 1", "end"]
-    same(account.printed(key + bytes.fromhex("12 00 02 00") + C), account.text(lines))
+    same(account.printed(KEY + bytes.fromhex("12 00 02 00") + C), account.text(lines))
     same(account.printed(b""), "")
 
 
@@ -159,6 +207,7 @@ def receptions(draw):
 
 def main():
     frames()
+    wrong_checks()
     writing_order()
     neighbours()
     ticks()
@@ -167,6 +216,8 @@ def main():
     draw = Draw(1)
     for _ in range(100):
         receptions(draw)
+    for _ in range(500):
+        found_and_worked_out(draw)
     print(f"examples: {looked} compared")
 
 

@@ -1,25 +1,31 @@
 """Frames for the crate `second_frames`: good ones at every limit, and refused ones for every cause that reading has.
 
-Each case says what it is meant to be: GOOD, a refusal's number, or UNKNOWN where chance made it. Making stops where reading
-disagrees, so a case cannot quietly show something else.
+Each case says what it is meant to be: GOOD, a refusal's number, 4 or 7 with the checks found and worked out, or UNKNOWN where chance
+made it. Making stops where reading disagrees, so a case cannot quietly show something else.
 """
 
 from itertools import combinations
 from typing import NamedTuple
 
 import examples
-from sync import (CLOSING, CONTROL_SIZE, DATA, LAST_NUMBER, LAST_STAMP, LENGTHS, LONGEST, control_part, end_closing, join_parts,
-                  lengths_size, pack_lengths)
+from draw import Draw
+from sync import (CLOSING, CONTROL_SIZE, DATA, HEADER_WIDTH, LAST_NUMBER, LAST_STAMP, LEAST_SIZE, LENGTHS, LONGEST, PAYLOAD_WIDTH,
+                  control_part, end_closing, header_check, join_parts, lengths_size, pack_lengths, payload_check, remainder)
 
 GOOD, UNKNOWN = 0, None
 MOST_PACKETS = (1 << 24) - 1
 MOST_OCTETS = (1 << 40) - 1
 WRAPS = 1_048_833  # the first count whose octets, at 4,095 each, pass 2^32
+ALL_SIX, ALL_TEN = 0x3F, 0x3FF
+# Other polynomials of the same width: the right one from its other end, and two more.
+OTHER_HEADERS = (0b111_1011, 0b100_0011, 0b110_0111)
+OTHER_PAYLOADS = (0b110_0110_0011, 0b100_0000_1001, 0b111_1101_1001)
+CHECK_SEED = 562  # of the cases about checks, which came later: the others stay as they were
 
 
 class Case(NamedTuple):
     frame: bytes
-    meant: int
+    meant: object
 
 
 # Frames with right checks, whatever their fields say
@@ -271,10 +277,170 @@ def hostile(draw):
         yield Case(flipped(frame, draw.below(8 * len(frame))) if draw.chance(4) else frame, UNKNOWN)
 
 
-def all_cases(draw):
-    """Every case, each group after the other."""
-    groups = (bench, good_closings, good_data, good_listings, unjudged_bits, drawn, too_short, other_types, header_wrong, stamp_wrong,
-              size_wrong, payload_wrong, data_counts, closing_counts, listing_counts, several_causes, hostile)
+# Wrong checks: the one found and the one worked out
+
+
+def own_header(frame):
+    return frame[CONTROL_SIZE[frame[0] >> 4]] >> 2
+
+
+def own_payload(frame):
+    place = CONTROL_SIZE[frame[0] >> 4]
+    return int.from_bytes(frame[place:place + 2], "big") & ALL_TEN
+
+
+def wrong_header(frame, found):
+    """A frame with another header check in place of its own, which is the one worked out."""
+    place = CONTROL_SIZE[frame[0] >> 4]
+    changed = frame[:place] + bytes([found << 2 | frame[place] & 3]) + frame[place + 1:]
+    return Case(changed, (4, found, own_header(frame)))
+
+
+def wrong_payload(frame, found):
+    """The same with the payload check of Types 1 and 3."""
+    place = CONTROL_SIZE[frame[0] >> 4]
+    checks = own_header(frame) << PAYLOAD_WIDTH | found
+    return Case(frame[:place] + checks.to_bytes(2, "big") + frame[place + 2:], (7, found, own_payload(frame)))
+
+
+def one_of_each(draw, stamp):
+    """A good frame of each type; that of Type 3 has padding and an extension."""
+    lengths = [draw.below(50) for _ in range(3)]
+    return (closing(stamp, 2, 9, (5, 40), draw.below(16), draw.below(4)), data(stamp, 1, 30, draw.octets(5), draw.below(16)),
+            listing(stamp, lengths, None, draw.below(16), draw.below(16), draw.octets(2)))
+
+
+def with_payloads(draw):
+    """Good frames with payload parts of many sizes: none, lengths with and without padding, extensions."""
+    for size in (0, 1, 2, 40):
+        yield data(draw.below(60_000), 1, 7, draw.octets(size))
+    for count, size in ((0, 0), (1, 0), (2, 0), (3, 0), (0, 4), (1, 1), (4, 3)):
+        lengths = [draw.below(LONGEST + 1) for _ in range(count)]
+        yield listing(draw.below(60_000), lengths, None, 0, draw.below(16), draw.octets(size))
+
+
+def headers_found(draw):
+    """Every header check but the right one: each single bit turned, 0 and 63 are among them."""
+    for frame in one_of_each(draw, draw.below(60_000)):
+        for found in range(ALL_SIX + 1):
+            if found != own_header(frame):
+                yield wrong_header(frame, found)
+
+
+def headers_worked_out(draw):
+    """Stamps that differ in their last six bits alone, so that every header check is worked out once in each type, 0 too."""
+    first = ALL_SIX + 1
+    for stamp in range(first, 2 * first):
+        for frame in (closing(stamp, 1, 1, (1, 1)), data(stamp, 0, 0, b"\x01"), listing(stamp, [1])):
+            yield wrong_header(frame, 0 if own_header(frame) else draw.between(1, ALL_SIX))
+
+
+def payloads_found(draw):
+    """Each single bit of the payload check turned, all of them, none set, and some by chance."""
+    for frame in with_payloads(draw):
+        own = own_payload(frame)
+        turned = [1 << place for place in range(PAYLOAD_WIDTH)] + [ALL_TEN, draw.between(1, ALL_TEN)]
+        yield from (wrong_payload(frame, own ^ bits) for bits in turned)
+        if own:
+            yield wrong_payload(frame, 0)
+
+
+def check_of_0(octets):
+    """The octets and ten more bits: their own check. Over both the check is 0, and the six zeros that fill the octet leave it so."""
+    return octets + (payload_check(octets) << 6).to_bytes(2, "big")
+
+
+def payloads_worked_out(draw):
+    """Payload parts whose check is 0: no bits, zeros, the polynomial's own bits and octets that end with their check."""
+    parts = (b"", bytes(1), bytes(2), bytes(63), b"\x06\x33", b"\x31\x98", check_of_0(b"\x01"), check_of_0(draw.octets(9)))
+    frames = [data(draw.below(60_000), 1, 7, part) for part in parts]
+    frames += [listing(draw.below(60_000), [0] * count, extension=bytes(size)) for count, size in ((0, 0), (0, 4), (1, 0), (2, 3), (3, 1))]
+    frames.append(listing(draw.below(60_000), [0x063], padding=3))  # 06 33 once more
+    frames.append(listing(draw.below(60_000), [1, 2], extension=check_of_0(pack_lengths([1, 2]))[3:]))
+    for frame in frames:
+        yield from (wrong_payload(frame, found) for found in (1, 1 << 9, draw.between(1, ALL_TEN)))
+
+
+def both_wrong(draw):
+    """A wrong header check is told whatever else is wrong, and a wrong payload check before impossible counts."""
+    for frame in with_payloads(draw):
+        wrong = wrong_payload(frame, own_payload(frame) ^ draw.between(1, ALL_TEN)).frame
+        yield wrong_header(wrong, own_header(wrong) ^ draw.between(1, ALL_SIX))
+    # Type 1 of a wrong size is long, and several_causes has it.
+    for kind, possible in ((CLOSING, (5, 6, 8)), (DATA, (5, 7, 8)), (LENGTHS, (5, 6, 7, 8))):
+        for size in range(1, len(possible) + 1):
+            for causes in combinations(possible, size):
+                frame = with_causes(kind, causes, draw)
+                yield wrong_header(frame, own_header(frame) ^ draw.between(1, ALL_SIX))
+    for kind in (DATA, LENGTHS):
+        frame = with_causes(kind, (8,), draw)
+        yield wrong_payload(frame, own_payload(frame) ^ draw.between(1, ALL_TEN))
+
+
+def header_otherwise(control):
+    """Header checks by another polynomial, preset (which turns the first bits), inverted, without the type octet, without spare bits."""
+    yield from (remainder(control, other, HEADER_WIDTH) for other in OTHER_HEADERS)
+    yield header_check(bytes([control[0] ^ ALL_SIX << 2]) + control[1:])
+    yield header_check(control) ^ ALL_SIX
+    yield header_check(control[1:])
+    yield header_check(bytes([control[0] & 0xF0]) + control[1:])
+
+
+def payload_otherwise(part):
+    """Payload checks by another polynomial, preset, inverted, and without the last octet."""
+    yield from (remainder(part, other, PAYLOAD_WIDTH) for other in OTHER_PAYLOADS)
+    yield payload_check((int.from_bytes(part, "big") ^ ALL_TEN << 8 * len(part) - PAYLOAD_WIDTH).to_bytes(len(part), "big"))
+    yield payload_check(part) ^ ALL_TEN
+    yield payload_check(part[:-1])
+
+
+def other_rules(draw):
+    """Checks as a sender might work them out by a wrong rule. By chance one is right in a frame; that one is left out."""
+    for _ in range(3):
+        for frame in one_of_each(draw, draw.below(60_000)):
+            control, part = frame[:CONTROL_SIZE[frame[0] >> 4]], frame[LEAST_SIZE[frame[0] >> 4]:]
+            yield from (wrong_header(frame, found) for found in header_otherwise(control) if found != own_header(frame))
+            if part:
+                yield from (wrong_payload(frame, found) for found in payload_otherwise(part) if found != own_payload(frame))
+
+
+def behind_checks(draw):
+    """Frames, each with the first of the bits that are turned one by one: in a payload, and in padding and extension of Type 3."""
+    frame = data(draw.below(60_000), 1, 7, draw.octets(3))
+    yield frame, 8 * LEAST_SIZE[DATA]
+    for lengths in ([7], [7, 8]):
+        frame = listing(draw.below(60_000), lengths, extension=draw.octets(4))
+        yield frame, 8 * LEAST_SIZE[LENGTHS] + 12 * len(lengths)
+    for frame in (data(draw.below(60_000), 1, 7, draw.octets(1_024)), listing(draw.below(60_000), [draw.below(9) for _ in range(301)])):
+        yield frame, 8 * len(frame) - 1  # long ones, with their last bit only
+
+
+def covered(draw):
+    """One bit turned behind the checks: the one found stays, and the one worked out is over what stands there now."""
+    for frame, first in behind_checks(draw):
+        for bit in range(first, 8 * len(frame)):
+            wrong = flipped(frame, bit)
+            yield Case(wrong, (7, own_payload(frame), payload_check(wrong[LEAST_SIZE[frame[0] >> 4]:])))
+
+
+def named(groups, draw):
+    """The cases of these groups, each group after the other."""
     for group in groups:
         for place, case in enumerate(group(draw)):
             yield f"{group.__name__} {place}", case
+
+
+def reading_cases(draw):
+    """What came first: every type, limit and cause."""
+    return named((bench, good_closings, good_data, good_listings, unjudged_bits, drawn, too_short, other_types, header_wrong, stamp_wrong,
+                  size_wrong, payload_wrong, data_counts, closing_counts, listing_counts, several_causes, hostile), draw)
+
+
+def check_cases(draw):
+    """Wrong checks alone. No good frame is among them, so the stored capture stays as it is."""
+    return named((headers_found, headers_worked_out, payloads_found, payloads_worked_out, both_wrong, other_rules, covered), draw)
+
+
+def all_cases(draw):
+    yield from reading_cases(draw)
+    yield from check_cases(Draw(CHECK_SEED))

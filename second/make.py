@@ -38,26 +38,37 @@ def nothing_unjudged(frame, said):
 
 
 def described(frame):
-    """The lines that stand for one frame, the number of its refusal or 0, and whether writing gives the same octets again."""
+    """The lines that stand for one frame, its refusal's number with the checks behind it or 0, and whether writing gives it again."""
     try:
         said = sync.read(frame)
     except sync.Refused as refused:
-        return [account.line("refused", refused.number)], refused.number, False
+        told = (refused.number, *refused.checks)
+        return [account.line("refused", *told)], told, False
     written = sync.write(said)
     same = written == frame
     if same != nothing_unjudged(frame, said):
         raise SystemExit(f"make: frame {frame.hex()} is written again as {written.hex()}")
-    return [said_line(said)] + ([] if same else [account.line("written", *written)]), 0, same
+    return [said_line(said)] + ([] if same else [account.line("written", *written)]), (0,), same
+
+
+def is_meant(told, meant):
+    """Whether what was told is what a case means. The number decides whether two checks stand behind it; not every case names them."""
+    return len(told) == (3 if told[0] in (4, 7) else 1) and meant in (told, told[0], frame_cases.UNKNOWN)
+
+
+def all_meant(told, meant):
+    meant = [frame_cases.UNKNOWN] * len(told) if meant is frame_cases.UNKNOWN else meant
+    return len(told) == len(meant) and all(map(is_meant, told, meant))
 
 
 def make_frames(folder):
     octets, lines, frames, again = b"", [], 0, 0
     for name, case in frame_cases.all_cases(Draw(FRAME_SEED)):
-        told, number, same = described(case.frame)
-        if case.meant not in (number, frame_cases.UNKNOWN):
-            raise SystemExit(f"make: frame {name} was meant to give {case.meant} and gives {number}")
+        more, told, same = described(case.frame)
+        if not is_meant(told, case.meant):
+            raise SystemExit(f"make: frame {name} was meant to give {case.meant} and gives {told}")
         octets += len(case.frame).to_bytes(2, "little") + case.frame
-        lines += told
+        lines += more
         frames += 1
         again += same
     lines.append(account.line("again", again))
@@ -71,9 +82,9 @@ def make_accounts(folder):
     names = []
     for case in account_cases.all_accounts(Draw(ACCOUNT_SEED)):
         text = account.printed(case.items)
-        numbers = [int(line.split()[2]) for line in text.splitlines() if line.startswith("refused")]
-        if case.refusals is not account_cases.UNKNOWN and list(case.refusals) != numbers:
-            raise SystemExit(f"make: account {case.name!r} was meant to refuse with {case.refusals} and refuses with {numbers}")
+        told = [tuple(int(field) for field in line.split()[2:]) for line in text.splitlines() if line.startswith("refused")]
+        if not all_meant(told, case.refusals):
+            raise SystemExit(f"make: account {case.name!r} was meant to refuse with {case.refusals} and refuses with {told}")
         place = f"{len(names):02}"
         (folder / f"{place}.items").write_bytes(case.items)
         (folder / f"{place}.txt").write_text(text)

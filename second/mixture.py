@@ -1,7 +1,8 @@
 """Sequences as a sender sends them, and inputs that mix them by chance with frames that do not belong."""
 
-from frame_cases import closing, data, flipped, listing
-from sync import LAST_STAMP, LONGEST
+from frame_cases import (OTHER_HEADERS, OTHER_PAYLOADS, closing, data, flipped, listing, own_header, own_payload, wrong_header,
+                         wrong_payload)
+from sync import CLOSING, CONTROL_SIZE, HEADER_WIDTH, LAST_STAMP, LEAST_SIZE, LONGEST, PAYLOAD_WIDTH, remainder
 
 SPOILED = (b"\x0A\x00\x01", b"\x0A\x00\x03\x00" + bytes(10), b"\x09\x00\x01\x00" + bytes(9), b"\x01\x20\x02\x00" + bytes(8_193),
            b"\x0A\x00\x01\x00" + bytes(8) + b"\x60\xEA")
@@ -87,13 +88,36 @@ class Sending:
         return self.draw.pick(spoiled)
 
 
-def mixture(draw, most_frames):
+def other_check(draw, own, octets, polynomials, width):
+    """What may stand in a check's place: one bit of it turned, any number, 0, or what another polynomial gives."""
+    return draw.pick((own ^ 1 << draw.below(width), draw.below(1 << width), 0, remainder(octets, draw.pick(polynomials), width)))
+
+
+class Noisy(Sending):
+    """A sending with a wrong check in many of its frames."""
+
+    def frame(self):
+        choice = self.draw.below(4)
+        if choice == 0:
+            return super().frame()
+        frame = self.near_frame() if self.draw.chance(3) else self.true_frame()
+        kind = frame[0] >> 4
+        if choice == 1 and kind != CLOSING:
+            part = frame[LEAST_SIZE[kind]:]
+            return wrong_payload(frame, other_check(self.draw, own_payload(frame), part, OTHER_PAYLOADS, PAYLOAD_WIDTH)).frame
+        if choice < 3:
+            control = frame[:CONTROL_SIZE[kind]]
+            return wrong_header(frame, other_check(self.draw, own_header(frame), control, OTHER_HEADERS, HEADER_WIDTH)).frame
+        return frame
+
+
+def mixture(draw, most_frames, kind=Sending):
     """Some sequences with true frames, near ones and damaged ones; now and then an item that stops the program."""
     items = b""
     for _ in range(draw.between(1, 4)):
         stamp = draw.pick((0, 1, draw.below(60_000), LAST_STAMP))
         items += key(draw.below(1 << 32), draw.pick((0, draw.below(1 << 32))), stamp)
-        sending = Sending(draw, stamp)
+        sending = kind(draw, stamp)
         items += b"".join(frame_item(sending.frame()) for _ in range(draw.below(most_frames)))
         if draw.chance(16):
             items += draw.pick(SPOILED)

@@ -1,7 +1,7 @@
 """Frames of SYNC version 1 on M1: PDU Types 0, 1 and 3, read and written.
 
-Written from document 01 and TS 25.446 v17.0.0 alone, so that it can disagree with the library. Clear before quick: the checks
-divide one bit at a time.
+Written from document 01 and TS 25.446 v17.0.0 alone, and what is told of a wrong check from request 6 of document 02, so that it
+can disagree with the library. Clear before quick: the checks divide one bit at a time.
 """
 
 from typing import NamedTuple
@@ -21,11 +21,12 @@ PAYLOAD_GENERATOR, PAYLOAD_WIDTH = 0b110_0011_0011, 10  # D^10+D^9+D^5+D^4+D+1
 
 
 class Refused(Exception):
-    """A call that was refused, with document 01's number."""
+    """A call that was refused, with document 01's number. Behind 4 and 7 stand the check found and the check worked out."""
 
-    def __init__(self, number):
+    def __init__(self, number, *checks):
         super().__init__(f"refused {number}")
         self.number = number
+        self.checks = checks
 
 
 class Closing(NamedTuple):
@@ -94,6 +95,12 @@ def payload_check(part):
     return remainder(part, PAYLOAD_GENERATOR, PAYLOAD_WIDTH)
 
 
+def hold_check(found, worked_out, number):
+    """Tells both where they differ: the number alone leaves open whether the polynomial is wrong or the line noisy."""
+    if found != worked_out:
+        raise Refused(number, found, worked_out)
+
+
 # The lengths of Type 3
 
 
@@ -156,7 +163,7 @@ def read(frame):
     refuse_if(len(frame) < LEAST_SIZE[kind], 1)
     size = CONTROL_SIZE[kind]
     control = frame[:size]
-    refuse_if(frame[size] >> 2 != header_check(control), 4)
+    hold_check(frame[size] >> 2, header_check(control), 4)
     stamp = int.from_bytes(control[1:3], "big")
     refuse_if(stamp > LAST_STAMP, 5)
     number = int.from_bytes(control[3:5], "big")
@@ -164,7 +171,7 @@ def read(frame):
     refuse_if(size_wrong(kind, len(frame), number), 6)
     part = frame[LEAST_SIZE[kind]:]
     if kind != CLOSING:
-        refuse_if((frame[size] & 3) << 8 | frame[size + 1] != payload_check(part), 7)
+        hold_check((frame[size] & 3) << 8 | frame[size + 1], payload_check(part), 7)
     if kind == DATA:
         refuse_if(data_impossible(number, elapsed), 8)
         return Data(stamp, number, elapsed, bytes(part))

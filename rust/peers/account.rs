@@ -1,5 +1,5 @@
-//! The account program in plain Rust, std alone, written from document 01 and TS 25.446: a program of its own, which the benchmark times,
-//! and the same as a function, which the tests compare with.
+//! The account program in plain Rust, std alone, written from document 01, request 6 of document 02, and TS 25.446: a program of its own,
+//! which the benchmark times, and the same as a function, which the tests compare with.
 //!
 //! It reads and prints in large pieces. The checks go by tables over slices of 16 and 8 octets. A bit a packet says what was heard, so
 //! the neighbours of a packet are found in a few steps, and nothing but the bits is cleared for a new sequence.
@@ -74,31 +74,59 @@ struct Frame {
     said: Said,
 }
 
+/// Why a frame is not taken: the refusal's number, and with 4 and 7 the check found and the check worked out; with any other both are 0.
+struct Refused {
+    number: u8,
+    found: u16,
+    worked_out: u16,
+}
+
+impl From<u8> for Refused {
+    fn from(number: u8) -> Refused {
+        Refused { number, found: 0, worked_out: 0 }
+    }
+}
+
+impl Refused {
+    fn print(&self, place: u64, text: &mut Vec<u8>) -> io::Result<()> {
+        let Refused { number, found, worked_out } = self;
+        match number {
+            4 | 7 => writeln!(text, "refused {place} {number} {found} {worked_out}"),
+            _ => writeln!(text, "refused {place} {number}"),
+        }
+    }
+}
+
+fn refused<T>(number: u8) -> Result<T, Refused> {
+    Err(number.into())
+}
+
 fn number(octets: &[u8]) -> u64 {
     octets.iter().fold(0, |sum, &octet| sum << 8 | u64::from(octet))
 }
 
-/// Reads a frame, or gives the number of the first refusal that applies.
-fn read(frame: &[u8]) -> Result<Frame, u8> {
-    let Some(first) = frame.first() else { return Err(1) };
+/// Reads a frame, or gives the first refusal that applies.
+fn read(frame: &[u8]) -> Result<Frame, Refused> {
+    let Some(first) = frame.first() else { return refused(1) };
     let kind = first >> 4;
     let least = match kind {
         0 => 18,
         1 => 11,
-        2 => return Err(2),
+        2 => return refused(2),
         3 => 19,
-        _ => return Err(3),
+        _ => return refused(3),
     };
     if frame.len() < least {
-        return Err(1);
+        return refused(1);
     }
     let control = if kind == 1 { 9 } else { 17 };
-    if HEADER.of(&frame[..control]) != u16::from(frame[control] >> 2) {
-        return Err(4);
+    let (found, worked_out) = (u16::from(frame[control] >> 2), HEADER.of(&frame[..control]));
+    if found != worked_out {
+        return Err(Refused { number: 4, found, worked_out });
     }
     let stamp = number(&frame[1..3]) as u16;
     if stamp > LAST_STAMP {
-        return Err(5);
+        return refused(5);
     }
     let said = match kind {
         0 => closing(frame)?,
@@ -108,58 +136,57 @@ fn read(frame: &[u8]) -> Result<Frame, u8> {
     Ok(Frame { stamp, said })
 }
 
-fn payload_check(checks: &[u8]) -> u16 {
-    (u16::from(checks[0]) << 8 | u16::from(checks[1])) & 0x3FF
+/// The ten bits behind the header check against the rest of the frame, which they cover.
+fn payload_checked(checks: &[u8], payload: &[u8]) -> Result<(), Refused> {
+    let found = (u16::from(checks[0]) << 8 | u16::from(checks[1])) & 0x3FF;
+    let worked_out = PAYLOAD.of(payload);
+    if found == worked_out { Ok(()) } else { Err(Refused { number: 7, found, worked_out }) }
 }
 
-fn packet(frame: &[u8]) -> Result<Said, u8> {
+fn packet(frame: &[u8]) -> Result<Said, Refused> {
     let payload = &frame[11..];
     let length = payload.len() as u64;
     if length > LONGEST_PAYLOAD {
-        return Err(6);
+        return refused(6);
     }
-    if PAYLOAD.of(payload) != payload_check(&frame[9..11]) {
-        return Err(7);
-    }
+    payload_checked(&frame[9..11], payload)?;
     let (number, start) = (number(&frame[3..5]), number(&frame[5..9]));
     if number == 65_535 || start > LONGEST_PAYLOAD * number {
-        return Err(8);
+        return refused(8);
     }
     Ok(Said::Packet { number: number as usize, start, length })
 }
 
-fn closing(frame: &[u8]) -> Result<Said, u8> {
+fn closing(frame: &[u8]) -> Result<Said, Refused> {
     if frame.len() != 18 {
-        return Err(6);
+        return refused(6);
     }
     counts(frame)
 }
 
 /// The counts of a closing PDU, where they are possible.
-fn counts(frame: &[u8]) -> Result<Said, u8> {
+fn counts(frame: &[u8]) -> Result<Said, Refused> {
     let (packets, octets) = (number(&frame[3..5]), number(&frame[5..9]));
     let (total_packets, total_octets) = (number(&frame[9..12]), number(&frame[12..17]));
-    let before = total_packets.checked_sub(packets).ok_or(8)?;
-    let octets_before = total_octets.checked_sub(octets).ok_or(8)?;
+    let before = total_packets.checked_sub(packets).ok_or(Refused::from(8))?;
+    let octets_before = total_octets.checked_sub(octets).ok_or(Refused::from(8))?;
     if octets > LONGEST_PAYLOAD * packets || octets_before > LONGEST_PAYLOAD * before {
-        return Err(8);
+        return refused(8);
     }
     Ok(Said::Closing { packets: packets as usize, octets })
 }
 
-fn closing_with_lengths(frame: &[u8]) -> Result<Said, u8> {
+fn closing_with_lengths(frame: &[u8]) -> Result<Said, Refused> {
     let packets = number(&frame[3..5]) as usize;
     let filled = (3 * packets).div_ceil(2);
     let rest = &frame[19..];
     if rest.len() < filled || rest.len() > filled + 4 {
-        return Err(6);
+        return refused(6);
     }
-    if PAYLOAD.of(rest) != payload_check(&frame[17..19]) {
-        return Err(7);
-    }
+    payload_checked(&frame[17..19], rest)?;
     let said = counts(frame)?;
     if sum_of_lengths(&rest[..filled], packets) != number(&frame[5..9]) {
-        return Err(8);
+        return refused(8);
     }
     Ok(said)
 }
@@ -202,8 +229,8 @@ fn can_carry(packets: usize, from: u64, to: u64) -> bool {
     to >= from && to - from <= LONGEST_PAYLOAD * packets as u64
 }
 
-fn agree(same: bool) -> Result<(), u8> {
-    if same { Ok(()) } else { Err(11) }
+fn agree(same: bool) -> Result<(), Refused> {
+    if same { Ok(()) } else { refused(11) }
 }
 
 impl Record {
@@ -225,10 +252,10 @@ impl Record {
         (self.reach, self.heard_packets, self.heard_octets, self.closing) = (0, 0, 0, None);
     }
 
-    fn hear(&mut self, frame: &[u8]) -> Result<(), u8> {
+    fn hear(&mut self, frame: &[u8]) -> Result<(), Refused> {
         let Frame { stamp, said } = read(frame)?;
         if stamp != self.key.stamp {
-            return Err(9);
+            return refused(9);
         }
         match said {
             Said::Packet { number, start, length } => self.hear_packet(number, start, length),
@@ -236,9 +263,9 @@ impl Record {
         }
     }
 
-    fn hear_packet(&mut self, number: usize, start: u64, length: u64) -> Result<(), u8> {
+    fn hear_packet(&mut self, number: usize, start: u64, length: u64) -> Result<(), Refused> {
         if number >= PLACES {
-            return Err(10);
+            return refused(10);
         }
         let end = start + length;
         let span = Span { start: start as u32, end: end as u32 };
@@ -258,9 +285,9 @@ impl Record {
         Ok(())
     }
 
-    fn hear_closing(&mut self, packets: usize, octets: u64) -> Result<(), u8> {
+    fn hear_closing(&mut self, packets: usize, octets: u64) -> Result<(), Refused> {
         if packets > PLACES {
-            return Err(10);
+            return refused(10);
         }
         if let Some(held) = self.closing {
             return agree(held == (packets, octets));
@@ -401,8 +428,8 @@ impl Account {
                     14
                 }
                 Item::Frame(frame) if self.begun => {
-                    if let Err(refusal) = self.record.hear(frame) {
-                        writeln!(self.text, "refused {} {refusal}", self.places + 1)?;
+                    if let Err(refused) = self.record.hear(frame) {
+                        refused.print(self.places + 1, &mut self.text)?;
                     }
                     4 + frame.len()
                 }

@@ -1,7 +1,9 @@
-//! Reading a frame as a plain Rust program would: document 01's layouts and order, with table-driven checks.
+//! Reading a frame as a plain Rust program would: document 01's layouts and order, with table-driven checks; and request 6 of document
+//! 02, by which a wrong check is told with the right one.
 #![allow(dead_code)]
 
 use crate::peers::{HeaderTable, Tables};
+use quimdoral::{Checks, ReadRefusal};
 
 /// The fields of a data PDU (Type 1), with its payload's length.
 #[derive(Clone, Copy, Debug, PartialEq, Eq)]
@@ -49,9 +51,50 @@ impl From<quimdoral::Frame<'_>> for Frame {
     }
 }
 
-/// What the library read, or the number of its refusal.
-pub fn told(frame: &[u8]) -> Result<Frame, u8> {
-    quimdoral::frames::read(frame).map(Frame::from).map_err(quimdoral::Refusal::number)
+/// Why a frame is not read or heard: the refusal's number, and with 4 and 7 "the check found and the check worked out"; with any other
+/// number both are 0.
+#[derive(Clone, Copy, Debug, PartialEq, Eq)]
+pub struct Refused {
+    pub number: u8,
+    pub found: u16,
+    pub worked_out: u16,
+}
+
+impl From<u8> for Refused {
+    fn from(number: u8) -> Refused {
+        Refused { number, found: 0, worked_out: 0 }
+    }
+}
+
+impl From<Refused> for u8 {
+    fn from(refused: Refused) -> u8 {
+        refused.number
+    }
+}
+
+impl From<ReadRefusal> for Refused {
+    fn from(said: ReadRefusal) -> Refused {
+        match said {
+            ReadRefusal::Refused(refusal) => Refused::from(refusal.number()),
+            ReadRefusal::HeaderCheck(Checks { found, worked_out }) => Refused { number: 4, found, worked_out },
+            ReadRefusal::PayloadCheck(Checks { found, worked_out }) => Refused { number: 7, found, worked_out },
+        }
+    }
+}
+
+/// A refusal that has nothing to tell but its number.
+pub fn refused<T>(number: u8) -> Result<T, Refused> {
+    Err(number.into())
+}
+
+/// A check found has to be the check worked out.
+fn same_check(number: u8, found: u16, worked_out: u16) -> Result<(), Refused> {
+    if found == worked_out { Ok(()) } else { Err(Refused { number, found, worked_out }) }
+}
+
+/// What the library read, or why it did not.
+pub fn told(frame: &[u8]) -> Result<Frame, Refused> {
+    quimdoral::frames::read(frame).map(Frame::from).map_err(Refused::from)
 }
 
 pub struct Reader {
@@ -93,26 +136,24 @@ impl Reader {
         }
     }
 
-    pub fn read(&self, frame: &[u8]) -> Result<Frame, u8> {
-        let Some(&first) = frame.first() else { return Err(1) };
+    pub fn read(&self, frame: &[u8]) -> Result<Frame, Refused> {
+        let Some(&first) = frame.first() else { return refused(1) };
         let kind = first >> 4;
         let least = match kind {
             0 => 18,
             1 => 11,
-            2 => return Err(2),
+            2 => return refused(2),
             3 => 19,
-            _ => return Err(3),
+            _ => return refused(3),
         };
         if frame.len() < least {
-            return Err(1);
+            return refused(1);
         }
         let n = Reader::control(kind);
-        if self.header.by_octets(&frame[..n]) != frame[n] >> 2 {
-            return Err(4);
-        }
+        same_check(4, u16::from(frame[n] >> 2), u16::from(self.header.by_octets(&frame[..n])))?;
         let stamp = number(&frame[1..3]);
         if stamp > 59_999 {
-            return Err(5);
+            return refused(5);
         }
         let (packet, elapsed) = (number(&frame[3..5]), number(&frame[5..9]));
         let filled = (3 * packet as usize + 1) / 2;
@@ -122,30 +163,30 @@ impl Reader {
             _ => (19 + filled..=19 + filled + 4).contains(&frame.len()),
         };
         if !size_right {
-            return Err(6);
+            return refused(6);
         }
-        if kind != 0 && u64::from(self.payload.by_slices::<16>(&frame[n + 2..])) != number(&frame[n..n + 2]) & 0x3FF {
-            return Err(7);
+        if kind != 0 {
+            same_check(7, number(&frame[n..n + 2]) as u16 & 0x3FF, self.payload.by_slices::<16>(&frame[n + 2..]))?;
         }
         if elapsed > 4_095 * packet {
-            return Err(8);
+            return refused(8);
         }
         if kind == 1 {
             if packet == 65_535 {
-                return Err(8);
+                return refused(8);
             }
             return Ok(Frame::Data(Data { stamp: stamp as u32, number: packet as u32, elapsed, length: (frame.len() - 11) as u32 }));
         }
         let (packets, octets) = (number(&frame[9..12]), number(&frame[12..17]));
         if packets < packet || octets < elapsed || octets - elapsed > 4_095 * (packets - packet) {
-            return Err(8);
+            return refused(8);
         }
         let closing = Closing { stamp: stamp as u32, number: packet as u32, elapsed, total_packets: packets as u32, total_octets: octets };
         if kind == 0 {
             return Ok(Frame::Closing(closing));
         }
         if (0..packet as usize).map(|i| length_at(frame, i)).sum::<u64>() != elapsed {
-            return Err(8);
+            return refused(8);
         }
         Ok(Frame::ClosingWithLengths(closing))
     }

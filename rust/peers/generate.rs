@@ -62,8 +62,46 @@ pub fn sealed(noise: &mut Noise, reader: &Reader) -> Vec<u8> {
     frame
 }
 
+/// Gives a frame a header check; the bits beside it stay.
+pub fn put_header_check(frame: &mut [u8], check: u16) {
+    let n = Reader::control(frame[0] >> 4);
+    frame[n] = (check as u8) << 2 | frame[n] & 3;
+}
+
+/// Gives a frame of Type 1 or 3 a payload check; the header check stays.
+pub fn put_payload_check(frame: &mut [u8], check: u16) {
+    let n = Reader::control(frame[0] >> 4);
+    frame[n] = frame[n] & 0xFC | (check >> 8) as u8;
+    frame[n + 1] = check as u8;
+}
+
+/// Turns one bit of the checks of a frame: Type 0 has six of them, Types 1 and 3 have sixteen.
+fn turn_a_check(noise: &mut Noise, frame: &mut [u8]) {
+    let kind = frame[0] >> 4;
+    let bit = noise.next() as usize % if kind == 0 { 6 } else { 16 };
+    frame[Reader::control(kind) + bit / 8] ^= 0x80 >> (bit % 8);
+}
+
+/// Gives a frame any value for one of its checks, at times the right one. Most are payload checks, which have the most values.
+fn set_a_check(noise: &mut Noise, frame: &mut [u8]) {
+    let check = (noise.next() >> 32) as u16;
+    if frame[0] >> 4 == 0 || noise.next() % 8 == 0 {
+        put_header_check(frame, check & 0x3F);
+    } else {
+        put_payload_check(frame, check & 0x3FF);
+    }
+}
+
+pub fn spoil_a_check(noise: &mut Noise, frame: &mut [u8]) {
+    if noise.next() % 4 == 0 { turn_a_check(noise, frame) } else { set_a_check(noise, frame) }
+}
+
 /// What was done to a frame, by the place of its name.
-pub const WAYS: [&str; 8] = ["bits turned", "cut", "longer", "sealed again after damage", "noise", "other type", "as it was", "as it was"];
+#[rustfmt::skip]
+pub const WAYS: [&str; 10] = [
+    "bits turned", "cut", "longer", "sealed again after damage", "noise", "other type", "a check's bit turned", "a check set",
+    "as it was", "as it was",
+];
 
 pub fn any(noise: &mut Noise, reader: &Reader) -> Vec<u8> {
     any_way(noise, reader).1
@@ -95,6 +133,8 @@ pub fn any_way(noise: &mut Noise, reader: &Reader) -> (usize, Vec<u8>) {
             frame = noise.octets(length);
         }
         5 => frame[0] ^= (noise.next() as u8) << 4,
+        6 => turn_a_check(noise, &mut frame),
+        7 => set_a_check(noise, &mut frame),
         _ => {}
     }
     (way, frame)

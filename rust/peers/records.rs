@@ -1,7 +1,7 @@
 //! The reception record of document 01, written on its own and twice: word for word, and as a plain Rust program would keep it.
 #![allow(dead_code)]
 
-use crate::frames::{Closing, Data, Frame, Reader};
+use crate::frames::{Closing, Data, Frame, Reader, Refused, refused};
 
 pub const LONGEST: u64 = 4_095;
 const MOST: usize = 65_535;
@@ -44,19 +44,19 @@ impl Written {
         Ok(())
     }
 
-    pub fn hear(&mut self, reader: &Reader, bearer: u32, period: u32, frame: &[u8]) -> Result<(), u8> {
+    pub fn hear(&mut self, reader: &Reader, bearer: u32, period: u32, frame: &[u8]) -> Result<(), Refused> {
         self.lists_fit()?;
         let said = reader.read(frame)?;
         if self.damaged() {
-            return Err(13);
+            return refused(13);
         }
         if self.head[..3] != [bearer, period, stamp_of(&said)].map(u64::from) {
-            return Err(9);
+            return refused(9);
         }
         let mut with_it = self.clone();
         with_it.write_down(said)?;
         if !with_it.explained() {
-            return Err(11);
+            return refused(11);
         }
         *self = with_it;
         Ok(())
@@ -232,10 +232,10 @@ impl PlainRecord {
         self.closing = None;
     }
 
-    pub fn hear(&mut self, reader: &Reader, bearer: u32, period: u32, frame: &[u8]) -> Result<(), u8> {
+    pub fn hear(&mut self, reader: &Reader, bearer: u32, period: u32, frame: &[u8]) -> Result<(), Refused> {
         let said = reader.read(frame)?;
         if self.key != [bearer, period, stamp_of(&said)] {
-            return Err(9);
+            return refused(9);
         }
         match said {
             Frame::Data(data) => self.hear_data(data),
@@ -243,17 +243,17 @@ impl PlainRecord {
         }
     }
 
-    fn hear_data(&mut self, data: Data) -> Result<(), u8> {
+    fn hear_data(&mut self, data: Data) -> Result<(), Refused> {
         let number = data.number as usize;
         let (elapsed, size) = (data.elapsed as u32, data.length as u16);
         if number >= self.marks.len() {
-            return Err(10);
+            return refused(10);
         }
         if self.marks[number] {
-            return if (self.elapsed[number], self.sizes[number]) == (elapsed, size) { Ok(()) } else { Err(11) };
+            return if (self.elapsed[number], self.sizes[number]) == (elapsed, size) { Ok(()) } else { refused(11) };
         }
         if !self.fits(number, data.elapsed, data.elapsed + u64::from(data.length)) {
-            return Err(11);
+            return refused(11);
         }
         self.marks[number] = true;
         self.elapsed[number] = elapsed;
@@ -262,17 +262,17 @@ impl PlainRecord {
         Ok(())
     }
 
-    fn hear_closing(&mut self, closing: Closing) -> Result<(), u8> {
+    fn hear_closing(&mut self, closing: Closing) -> Result<(), Refused> {
         let (packets, octets) = (closing.number as usize, closing.elapsed);
         if packets > self.marks.len() {
-            return Err(10);
+            return refused(10);
         }
         if let Some(held) = self.closing {
-            return if held == (packets, octets) { Ok(()) } else { Err(11) };
+            return if held == (packets, octets) { Ok(()) } else { refused(11) };
         }
         let (before, from) = self.heard.map_or((0, 0), |(_, last)| (last + 1, self.end(last)));
         if before > packets || !carry(packets - before, from, octets) {
-            return Err(11);
+            return refused(11);
         }
         self.closing = Some((packets, octets));
         Ok(())

@@ -241,8 +241,8 @@ impl fmt::Debug for Tally {
 }
 
 impl Tally {
-    pub fn add(&mut self, answer: Result<(), u8>) {
-        self.0[usize::from(answer.err().unwrap_or(0))] += 1;
+    pub fn add(&mut self, answer: Result<(), impl Into<u8>>) {
+        self.0[usize::from(answer.err().map_or(0, Into::into))] += 1;
     }
 
     pub fn calls(&self) -> usize {

@@ -1,7 +1,7 @@
 //! Frames of PDU Types 0, 1 and 3: what they say, read and written.
 
-use crate::refusal::{of_written, refused};
-use crate::{Octets, Packets, Refusal, raw};
+use crate::refusal::of_written;
+use crate::{Octets, Packets, ReadRefusal, Refusal, raw};
 
 /// A data PDU (Type 1). Fields are wider than a frame has them, so that what does not fit is refused and not cut.
 #[derive(Clone, Copy, Debug, PartialEq, Eq, Hash)]
@@ -148,18 +148,21 @@ impl Frame<'_> {
     }
 }
 
-/// Reads a frame. Refusals, in this order: 1 for an empty frame, 2, 3, 1, 4, 5, 6, 7, 8.
+/// Reads a frame. Refusals, in this order: 1 for an empty frame, 2, 3, 1, 4, 5, 6, 7, 8; with 4 and 7 the check found and the check worked
+/// out are told.
 ///
 /// ```
-/// use quimdoral::{Frame, Octets, Packets, Refusal, frames};
-/// let octets = [0x10, 0, 0, 0, 0, 0, 0, 0, 0, 0x3A, 0x33, 0x01];
+/// use quimdoral::{Checks, Frame, Octets, Packets, ReadRefusal, Refusal, frames};
+/// let mut octets = [0x10, 0, 0, 0, 0, 0, 0, 0, 0, 0x3A, 0x33, 0x01];
 /// let Frame::Data(data) = frames::read(&octets)? else { panic!("a data PDU") };
 /// assert_eq!((data.number, data.elapsed, data.payload), (Packets(0), Octets(0), &[1][..]));
-/// assert_eq!(frames::read(&octets[..10]), Err(Refusal::TooShort));
+/// assert_eq!(frames::read(&octets[..10]), Err(ReadRefusal::Refused(Refusal::TooShort)));
+/// octets[11] = 0x00;
+/// assert_eq!(frames::read(&octets), Err(ReadRefusal::PayloadCheck(Checks { found: 563, worked_out: 0 })));
 /// # Ok::<(), Refusal>(())
 /// ```
 #[inline]
-pub fn read(frame: &[u8]) -> Result<Frame<'_>, Refusal> {
+pub fn read(frame: &[u8]) -> Result<Frame<'_>, ReadRefusal> {
     // Each number fits: the fields of a frame are no wider.
     let closing = |said: &raw::Said| Closing {
         stamp: said.at(1) as u32,
@@ -179,32 +182,37 @@ pub fn read(frame: &[u8]) -> Result<Frame<'_>, Refusal> {
         2 => Frame::Data(data(said)),
         _ => Frame::ClosingWithLengths(closing(said)),
     });
-    told.map_err(refused)
+    told.map_err(ReadRefusal::answered)
 }
 
 /// Reads the payload lengths of a Type 3 frame to the front of `lengths`, and says how many there are; a frame of Type 0 or 1 has none.
 /// Refusals, in this order: those of [`read`], 12.
 ///
 /// ```
-/// use quimdoral::{Refusal, frames};
-/// let frame = [0x30, 0, 0, 0, 1, 0, 0, 0, 1, 0, 0, 1, 0, 0, 0, 0, 1, 0x00, 0x31, 0x00, 0x10];
+/// use quimdoral::{Checks, ReadRefusal, Refusal, frames};
+/// let mut frame = [0x30, 0, 0, 0, 1, 0, 0, 0, 1, 0, 0, 1, 0, 0, 0, 0, 1, 0x00, 0x31, 0x00, 0x10];
 /// let mut lengths = [9; 3];
 /// assert_eq!(frames::read_lengths(&frame, &mut lengths), Ok(1));
 /// assert_eq!(lengths, [1, 9, 9]);
-/// assert_eq!(frames::read_lengths(&frame, &mut []), Err(Refusal::NoRoom));
+/// assert_eq!(frames::read_lengths(&frame, &mut []), Err(ReadRefusal::Refused(Refusal::NoRoom)));
+/// frame[17] = 0x10;
+/// assert_eq!(frames::read_lengths(&frame, &mut []), Err(ReadRefusal::HeaderCheck(Checks { found: 4, worked_out: 0 })));
 /// ```
 #[inline]
-pub fn read_lengths(frame: &[u8], lengths: &mut [u16]) -> Result<usize, Refusal> {
-    of_written(raw::read_lengths(frame, lengths))
+pub fn read_lengths(frame: &[u8], lengths: &mut [u16]) -> Result<usize, ReadRefusal> {
+    ReadRefusal::of_written(raw::read_lengths(frame, lengths))
 }
 
 /// The payload lengths of a Type 3 frame in a list of their own; a frame of Type 0 or 1 has none. Refusals are those of [`read`].
 ///
 /// ```
-/// let frame = [0x30, 0, 0, 0, 1, 0, 0, 0, 1, 0, 0, 1, 0, 0, 0, 0, 1, 0x00, 0x31, 0x00, 0x10];
-/// assert_eq!(quimdoral::frames::lengths(&frame), Ok(vec![1]));
+/// use quimdoral::{Checks, ReadRefusal, frames};
+/// let mut frame = [0x30, 0, 0, 0, 1, 0, 0, 0, 1, 0, 0, 1, 0, 0, 0, 0, 1, 0x00, 0x31, 0x00, 0x10];
+/// assert_eq!(frames::lengths(&frame), Ok(vec![1]));
+/// frame[20] = 0x11;
+/// assert_eq!(frames::lengths(&frame), Err(ReadRefusal::PayloadCheck(Checks { found: 49, worked_out: 514 })));
 /// ```
-pub fn lengths(frame: &[u8]) -> Result<Vec<u16>, Refusal> {
+pub fn lengths(frame: &[u8]) -> Result<Vec<u16>, ReadRefusal> {
     // Three octets hold two lengths, and a frame has at most 65,535.
     let room = (frame.len().saturating_sub(LENGTHS_LEAST) * 2 / 3).min(65_535);
     let mut lengths = vec![0; room];

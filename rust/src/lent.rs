@@ -5,7 +5,7 @@
 
 use crate::raw;
 use crate::record::Key;
-use crate::refusal::{JoinRefusal, Refusal, of_number, of_written};
+use crate::refusal::{JoinRefusal, ReadRefusal, Refusal, of_number, of_written};
 
 /// A record in borrowed memory.
 ///
@@ -68,39 +68,46 @@ pub fn fresh(key: Key, lists: Lists) -> Result<(), Refusal> {
 /// Takes a frame that came in a bearer and a period. Refusals, in this order: 14, those of reading, 13, 9, 10, 11.
 ///
 /// ```
-/// use quimdoral::{Refusal, lent::{Lists, hear}};
+/// use quimdoral::{Checks, ReadRefusal, Refusal, lent::{Lists, hear}};
 /// let first = [0x10, 0, 0, 0, 0, 0, 0, 0, 0, 0x3A, 0x33, 0x01];
 /// let (mut head, mut marks, mut elapsed, mut sizes) = ([7, 3, 0, 0, 0, 0], [2, 0], [0; 2], [0; 2]);
 /// let lists = Lists { head: &mut head, marks: &mut marks, elapsed: &mut elapsed, sizes: &mut sizes };
-/// assert_eq!(hear(lists, 7, 3, &first), Err(Refusal::RecordDamaged)); // 2 is no mark
+/// assert_eq!(hear(lists, 7, 3, &first), Err(ReadRefusal::Refused(Refusal::RecordDamaged))); // 2 is no mark
+/// let lists = Lists { head: &mut head, marks: &mut marks, elapsed: &mut elapsed, sizes: &mut sizes };
+/// let wrong = Checks { found: 563, worked_out: 0 };
+/// assert_eq!(hear(lists, 7, 3, &first[..11]), Err(ReadRefusal::PayloadCheck(wrong))); // a frame that was cut is told first
 /// marks[0] = 0;
 /// let lists = Lists { head: &mut head, marks: &mut marks, elapsed: &mut elapsed, sizes: &mut sizes };
 /// assert_eq!(hear(lists, 7, 3, &first), Ok(()));
 /// assert_eq!((marks, sizes), ([1, 0], [1, 0]));
 /// ```
 #[inline]
-pub fn hear(lists: Lists, bearer: u32, period: u32, frame: &[u8]) -> Result<(), Refusal> {
-    of_number(raw::hear(lists, bearer, period, frame))
+pub fn hear(lists: Lists, bearer: u32, period: u32, frame: &[u8]) -> Result<(), ReadRefusal> {
+    ReadRefusal::of_answer(raw::hear(lists, bearer, period, frame))
 }
 
 /// Makes the lists an empty record and takes many frames into it, which is quicker than a call for each. Refusals of the whole, in this
-/// order: 14, 5, 12 (fewer places in `numbers` than in `ends`).
+/// order: 14, 5, 12 (fewer places in `answers` than in `ends`).
 ///
-/// The frames stand in one row of octets. Frame `i` ends before `ends[i]`, and `numbers[i]` gets 0 or the number of its refusal. An end
-/// beyond the octets is taken as theirs, and one before the frame's begin gives an empty frame.
+/// The frames stand in one row of octets. Frame `i` ends before `ends[i]`, and `answers[i]` gets 0 or the answer of its refusal, which
+/// [`ReadRefusal::from_answer`] takes apart. An end beyond the octets is taken as theirs, and one before the frame's begin gives an empty
+/// frame.
 ///
 /// ```
-/// use quimdoral::{Key, lent::{Lists, hear_all}};
+/// use quimdoral::{Checks, Key, ReadRefusal, Refusal, lent::{Lists, hear_all}};
 /// let first = [0x10, 0, 0, 0, 0, 0, 0, 0, 0, 0x3A, 0x33, 0x01];
-/// let (mut head, mut marks, mut elapsed, mut sizes, mut numbers) = ([9; 6], [9; 2], [9; 2], [9; 2], [9; 4]);
+/// let (mut head, mut marks, mut elapsed, mut sizes, mut answers) = ([9; 6], [9; 2], [9; 2], [9; 2], [9; 4]);
 /// let lists = Lists { head: &mut head, marks: &mut marks, elapsed: &mut elapsed, sizes: &mut sizes };
 /// let key = Key { bearer: 7, period: 3, stamp: 0 };
-/// assert_eq!(hear_all(key, lists, &[first, first].concat(), &[12, 23, 24], &mut numbers), Ok(()));
-/// assert_eq!((marks, numbers), ([1, 0], [0, 7, 1, 9]));
+/// assert_eq!(hear_all(key, lists, &[first, first].concat(), &[12, 23, 24], &mut answers), Ok(()));
+/// assert_eq!((marks, answers), ([1, 0], [0, 7 + 256 * 563, 1, 9])); // the second was cut, and an octet was left for the third
+/// let wrong = Checks { found: 563, worked_out: 0 };
+/// assert_eq!(ReadRefusal::from_answer(answers[1]), Some(ReadRefusal::PayloadCheck(wrong)));
+/// assert_eq!(ReadRefusal::from_answer(answers[2]), Some(ReadRefusal::Refused(Refusal::TooShort)));
 /// ```
 #[inline]
-pub fn hear_all(key: Key, lists: Lists, octets: &[u8], ends: &[u32], numbers: &mut [u8]) -> Result<(), Refusal> {
-    of_number(raw::hear_all(key.numbers(), lists, octets, ends, numbers))
+pub fn hear_all(key: Key, lists: Lists, octets: &[u8], ends: &[u32], answers: &mut [u64]) -> Result<(), Refusal> {
+    of_number(raw::hear_all(key.numbers(), lists, octets, ends, answers))
 }
 
 /// Adds to the left record what the right one heard; the right one is only read. Refusals, in this order: 14, 13, 9, 11.

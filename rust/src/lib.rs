@@ -19,7 +19,7 @@
 //! what is still missing, neither of them heard:
 //!
 //! ```
-//! use quimdoral::{Amount, Gap, Key, Octets, Packets, Record, Refusal, Sender};
+//! use quimdoral::{Amount, Checks, Gap, Key, Octets, Packets, ReadRefusal, Record, Refusal, Sender};
 //!
 //! # fn main() -> Result<(), Refusal> {
 //! let mut sender = Sender::new();
@@ -35,7 +35,8 @@
 //! let mut south = north.clone();
 //! north.hear(bearer, period, &frames[0])?; // of the rest it heard nothing
 //! south.hear(bearer, period, &frames[3])?; // the closing alone, and then a frame that was cut on its way
-//! assert_eq!(south.hear(bearer, period, &frames[1][..15]), Err(Refusal::PayloadCheckWrong));
+//! let wrong = Checks { found: 12, worked_out: 479 };
+//! assert_eq!(south.hear(bearer, period, &frames[1][..15]), Err(ReadRefusal::PayloadCheck(wrong)));
 //!
 //! north.join(&south)?;
 //! let report = north.report()?;
@@ -62,7 +63,7 @@ mod units;
 
 pub use frames::{Closing, Data, Frame};
 pub use record::{Key, Record};
-pub use refusal::{JoinRefusal, Refusal};
+pub use refusal::{Checks, JoinRefusal, ReadRefusal, Refusal};
 pub use report::{Amount, Gap, Report};
 pub use sender::Sender;
 pub use units::{Octets, Packets};

@@ -12,7 +12,7 @@ use std::mem::MaybeUninit;
 unsafe extern "C" {
     fn quimdoral_header_check(octets: *const u8, octets_length: usize) -> u8;
     fn quimdoral_payload_check(octets: *const u8, octets_length: usize) -> u16;
-    fn quimdoral_read_frame(frame: *const u8, frame_length: usize, said: *mut u64, said_length: usize) -> u8;
+    fn quimdoral_read_frame(frame: *const u8, frame_length: usize, said: *mut u64, said_length: usize) -> u64;
     fn quimdoral_read_lengths(frame: *const u8, frame_length: usize, lengths: *mut u16, lengths_length: usize) -> u64;
     fn quimdoral_write_data(
         stamp: u32, number: u32, elapsed: u64,
@@ -60,7 +60,7 @@ unsafe extern "C" {
         sizes: *mut u16, sizes_length: usize,
         bearer: u32, period: u32,
         frame: *const u8, frame_length: usize,
-    ) -> u8;
+    ) -> u64;
     fn quimdoral_hear_all(
         bearer: u32, period: u32, stamp: u32,
         head: *mut u64, head_length: usize,
@@ -69,7 +69,7 @@ unsafe extern "C" {
         sizes: *mut u16, sizes_length: usize,
         octets: *const u8, octets_length: usize,
         ends: *const u32, ends_length: usize,
-        numbers: *mut u8, numbers_length: usize,
+        answers: *mut u64, answers_length: usize,
     ) -> u8;
     fn quimdoral_join(
         head: *mut u64, head_length: usize,
@@ -121,14 +121,14 @@ impl Said {
     }
 }
 
-/// Hands what an accepted frame says to `tell`, or gives the refusal's number.
+/// Hands what an accepted frame says to `tell`, or gives the answer of a refusal.
 #[inline]
-pub fn read_frame<T>(frame: &[u8], tell: impl FnOnce(&Said) -> T) -> Result<T, u8> {
+pub fn read_frame<T>(frame: &[u8], tell: impl FnOnce(&Said) -> T) -> Result<T, u64> {
     let mut said = MaybeUninit::<[u64; SAID]>::uninit();
     // SAFETY: a slice, which is only read, and room for all numbers, which the library writes and does not read.
-    let number = unsafe { quimdoral_read_frame(frame.as_ptr(), frame.len(), said.as_mut_ptr().cast(), SAID) };
+    let answer = unsafe { quimdoral_read_frame(frame.as_ptr(), frame.len(), said.as_mut_ptr().cast(), SAID) };
     // Where the answer is 0, all numbers were written.
-    if number == 0 { Ok(tell(&Said(said))) } else { Err(number) }
+    if answer == 0 { Ok(tell(&Said(said))) } else { Err(answer) }
 }
 
 #[inline]
@@ -233,7 +233,7 @@ pub fn fresh([bearer, period, stamp]: [u32; 3], lists: Lists) -> u8 {
 
 #[inline]
 #[rustfmt::skip]
-pub fn hear(lists: Lists, bearer: u32, period: u32, frame: &[u8]) -> u8 {
+pub fn hear(lists: Lists, bearer: u32, period: u32, frame: &[u8]) -> u64 {
     let Lists { head, marks, elapsed, sizes } = lists;
     // SAFETY: slices, those that are written to borrowed exclusively.
     unsafe {
@@ -250,7 +250,7 @@ pub fn hear(lists: Lists, bearer: u32, period: u32, frame: &[u8]) -> u8 {
 
 #[inline]
 #[rustfmt::skip]
-pub fn hear_all([bearer, period, stamp]: [u32; 3], lists: Lists, octets: &[u8], ends: &[u32], numbers: &mut [u8]) -> u8 {
+pub fn hear_all([bearer, period, stamp]: [u32; 3], lists: Lists, octets: &[u8], ends: &[u32], answers: &mut [u64]) -> u8 {
     let Lists { head, marks, elapsed, sizes } = lists;
     // SAFETY: slices, those that are written to borrowed exclusively.
     unsafe {
@@ -262,7 +262,7 @@ pub fn hear_all([bearer, period, stamp]: [u32; 3], lists: Lists, octets: &[u8], 
             sizes.as_mut_ptr(), sizes.len(),
             octets.as_ptr(), octets.len(),
             ends.as_ptr(), ends.len(),
-            numbers.as_mut_ptr(), numbers.len(),
+            answers.as_mut_ptr(), answers.len(),
         )
     }
 }

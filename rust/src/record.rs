@@ -1,8 +1,7 @@
 //! Reception records: what was heard of one sequence.
 
 use crate::lent::{self, Held, Lists};
-use crate::refusal::of_number;
-use crate::{JoinRefusal, Octets, Packets, Refusal, Report};
+use crate::{JoinRefusal, Octets, Packets, ReadRefusal, Refusal, Report};
 
 /// What a sequence belongs to: frames of another key are refused with 9.
 #[derive(Clone, Copy, Debug, PartialEq, Eq, Hash)]
@@ -58,13 +57,13 @@ pub struct Parts {
 /// A reception record that owns its memory. No label is kept, and no payload.
 ///
 /// ```
-/// use quimdoral::{Key, Octets, Packets, Record, Refusal, record::{Closed, Heard}};
+/// use quimdoral::{Key, Octets, Packets, ReadRefusal, Record, Refusal, record::{Closed, Heard}};
 /// let first = [0x10, 0, 0, 0, 0, 0, 0, 0, 0, 0x3A, 0x33, 0x01];
 /// let closing = [0, 0, 0, 0, 1, 0, 0, 0, 1, 0, 0, 1, 0, 0, 0, 0, 1, 0x9C];
 /// let mut record = Record::fresh(Key { bearer: 7, period: 3, stamp: 0 }, 4)?;
 /// record.hear(7, 3, &closing)?;
 /// record.hear(7, 3, &first)?;
-/// assert_eq!(record.hear(8, 3, &first), Err(Refusal::OtherSequence));
+/// assert_eq!(record.hear(8, 3, &first), Err(ReadRefusal::Refused(Refusal::OtherSequence)));
 /// assert_eq!(record.heard(Packets(0)), Some(Heard { elapsed: Octets(0), length: Octets(1) }));
 /// assert_eq!(record.closed(), Some(Closed { packets: Packets(1), octets: Octets(1) }));
 /// # Ok::<(), Refusal>(())
@@ -125,8 +124,16 @@ impl Record {
     /// those of [`frames::read`](crate::frames::read), 13, 9, 10, 11.
     ///
     /// Each call goes over the whole record to judge it. Where many frames are at hand, [`Record::hear_all`] is quicker.
+    ///
+    /// ```
+    /// use quimdoral::{Checks, Key, ReadRefusal, Record, Refusal};
+    /// let spoilt = [0, 0, 0, 0, 1, 0, 0, 0, 1, 0, 0, 1, 0, 0, 0, 0, 1, 0x1C]; // the first bit of the header check was turned
+    /// let mut record = Record::fresh(Key { bearer: 7, period: 3, stamp: 0 }, 4)?;
+    /// assert_eq!(record.hear(7, 3, &spoilt), Err(ReadRefusal::HeaderCheck(Checks { found: 7, worked_out: 39 })));
+    /// # Ok::<(), Refusal>(())
+    /// ```
     #[inline]
-    pub fn hear(&mut self, bearer: u32, period: u32, frame: &[u8]) -> Result<(), Refusal> {
+    pub fn hear(&mut self, bearer: u32, period: u32, frame: &[u8]) -> Result<(), ReadRefusal> {
         lent::hear(self.lists(), bearer, period, frame)
     }
 
@@ -136,17 +143,18 @@ impl Record {
     /// before the frame's begin gives an empty frame.
     ///
     /// ```
-    /// use quimdoral::{Key, Record, Refusal};
+    /// use quimdoral::{Checks, Key, ReadRefusal, Record, Refusal};
     /// let first = [0x10, 0, 0, 0, 0, 0, 0, 0, 0, 0x3A, 0x33, 0x01];
     /// let (record, answers) = Record::hear_all(Key { bearer: 7, period: 3, stamp: 0 }, 4, &[first, first].concat(), &[12, 23])?;
-    /// assert_eq!(answers, [Ok(()), Err(Refusal::PayloadCheckWrong)]); // the second frame was cut
+    /// let wrong = Checks { found: 563, worked_out: 0 };
+    /// assert_eq!(answers, [Ok(()), Err(ReadRefusal::PayloadCheck(wrong))]); // the second frame was cut
     /// assert_eq!(record.marks(), [1, 0, 0, 0]);
     /// # Ok::<(), Refusal>(())
     /// ```
-    pub fn hear_all(key: Key, capacity: usize, octets: &[u8], ends: &[u32]) -> Result<(Record, Vec<Result<(), Refusal>>), Refusal> {
-        let (mut record, mut numbers) = (Record::zeros(capacity), vec![0; ends.len()]);
-        lent::hear_all(key, record.lists(), octets, ends, &mut numbers)?;
-        Ok((record, numbers.into_iter().map(of_number).collect()))
+    pub fn hear_all(key: Key, capacity: usize, octets: &[u8], ends: &[u32]) -> Result<(Record, Vec<Result<(), ReadRefusal>>), Refusal> {
+        let (mut record, mut answers) = (Record::zeros(capacity), vec![0; ends.len()]);
+        lent::hear_all(key, record.lists(), octets, ends, &mut answers)?;
+        Ok((record, answers.into_iter().map(ReadRefusal::of_answer).collect()))
     }
 
     /// Adds what another record of the same sequence heard. Refusals, in this order: 14, 13, 9, 11.

@@ -8,7 +8,7 @@ use std::fmt;
 ///
 /// ```
 /// use quimdoral::{Refusal, frames};
-/// let refusal = frames::read(&[0x20]).unwrap_err();
+/// let refusal = frames::read(&[0x20]).unwrap_err().refusal();
 /// assert_eq!((refusal, refusal.number()), (Refusal::TypeTwo, 2));
 /// assert_eq!(refusal.to_string(), "refusal 2: the frame is of Type 2, which M1 does not use");
 /// ```
@@ -188,6 +188,127 @@ impl From<JoinRefusal> for Refusal {
     }
 }
 
+/// The check found in a frame, and the check worked out over the octets that it covers. The two differ, and either may be 0.
+///
+/// They tell a maker's wrong polynomial from a noisy link: a wrong polynomial gives the same difference for the same octets every time,
+/// noise does not.
+#[derive(Clone, Copy, Debug, PartialEq, Eq, Hash)]
+pub struct Checks {
+    /// What stands in the frame: six bits of a header check, ten of a payload check.
+    pub found: u16,
+    /// What the rule gives over the frame's control part, or its payload part.
+    pub worked_out: u16,
+}
+
+/// Why a frame was not read or heard. A wrong check comes with the check found and the check worked out.
+///
+/// ```
+/// use quimdoral::{Checks, ReadRefusal, Refusal, frames};
+/// let frame = [0x30, 0, 0, 0, 1, 0, 0, 0, 1, 0, 0, 1, 0, 0, 0, 0, 1, 0x02, 0x02, 0x00, 0x10];
+/// let refusal = frames::read(&frame).unwrap_err();
+/// assert_eq!(refusal, ReadRefusal::PayloadCheck(Checks { found: 514, worked_out: 49 }));
+/// assert_eq!(refusal.to_string(), "refusal 7: the payload check is wrong: 514 was found, 49 worked out");
+/// assert_eq!((refusal.number(), Refusal::from(refusal)), (7, Refusal::PayloadCheckWrong));
+/// ```
+#[derive(Clone, Copy, Debug, PartialEq, Eq, Hash)]
+pub enum ReadRefusal {
+    /// Any other refusal than 4 and 7; no checks come with it.
+    Refused(Refusal),
+    /// Refusal 4: the header check is wrong.
+    HeaderCheck(Checks),
+    /// Refusal 7: the payload check is wrong.
+    PayloadCheck(Checks),
+}
+
+impl ReadRefusal {
+    /// The refusal of an answer that [`lent::hear_all`](crate::lent::hear_all) wrote: its lowest eight bits are the refusal's number, and
+    /// with 4 and 7 the sixteen bits above have the check found and the next sixteen the check worked out. Nothing where the answer is 0,
+    /// or has another form.
+    ///
+    /// ```
+    /// use quimdoral::{Checks, ReadRefusal, Refusal};
+    /// let answer = 7 + 256 * (514 + 65_536 * 49);
+    /// assert_eq!(ReadRefusal::from_answer(answer), Some(ReadRefusal::PayloadCheck(Checks { found: 514, worked_out: 49 })));
+    /// assert_eq!(ReadRefusal::from_answer(9), Some(ReadRefusal::Refused(Refusal::OtherSequence)));
+    /// assert_eq!([0, 19, 9 + 256].map(ReadRefusal::from_answer), [None; 3]);
+    /// ```
+    pub fn from_answer(answer: u64) -> Option<ReadRefusal> {
+        let checks = Checks { found: (answer >> 8) as u16, worked_out: (answer >> 24) as u16 };
+        match (Refusal::from_number(answer as u8)?, answer >> 8) {
+            (HeaderCheckWrong, ..=0xFFFF_FFFF) => Some(ReadRefusal::HeaderCheck(checks)),
+            (PayloadCheckWrong, ..=0xFFFF_FFFF) => Some(ReadRefusal::PayloadCheck(checks)),
+            (refusal, 0) => Some(ReadRefusal::Refused(refusal)),
+            _ => None,
+        }
+    }
+
+    /// An answer of the library to a frame that is 0 or a refusal's.
+    #[inline]
+    pub(crate) fn of_answer(answer: u64) -> Result<(), ReadRefusal> {
+        if answer == 0 { Ok(()) } else { Err(ReadRefusal::answered(answer)) }
+    }
+
+    /// An answer of the library to a frame that says how much of a lent slice was written, or is a refusal's.
+    #[inline]
+    pub(crate) fn of_written(answer: u64) -> Result<usize, ReadRefusal> {
+        if answer & 255 == 0 { Ok((answer >> 8) as usize) } else { Err(ReadRefusal::answered(answer)) }
+    }
+
+    /// The refusal that the library answered with. Good frames do not come here, so it is kept out of their way.
+    #[cold]
+    pub(crate) fn answered(answer: u64) -> ReadRefusal {
+        ReadRefusal::from_answer(answer).expect("the answer of a refusal")
+    }
+
+    /// The refusal without the checks.
+    pub fn refusal(self) -> Refusal {
+        match self {
+            ReadRefusal::Refused(refusal) => refusal,
+            ReadRefusal::HeaderCheck(_) => HeaderCheckWrong,
+            ReadRefusal::PayloadCheck(_) => PayloadCheckWrong,
+        }
+    }
+
+    /// The number of the refusal.
+    pub fn number(self) -> u8 {
+        self.refusal().number()
+    }
+
+    /// The check found and the check worked out, with refusals 4 and 7.
+    ///
+    /// ```
+    /// use quimdoral::{Checks, frames};
+    /// let mut frame = [0x10, 0, 0, 0, 0, 0, 0, 0, 0, 0x3A, 0x33, 0x01];
+    /// frame[9] = 0x3E; // the last bit of the header check is turned
+    /// assert_eq!(frames::read(&frame).unwrap_err().checks(), Some(Checks { found: 15, worked_out: 14 }));
+    /// assert_eq!(frames::read(&frame[..10]).unwrap_err().checks(), None); // too short, and nothing is said of its check
+    /// ```
+    pub fn checks(self) -> Option<Checks> {
+        match self {
+            ReadRefusal::Refused(_) => None,
+            ReadRefusal::HeaderCheck(checks) | ReadRefusal::PayloadCheck(checks) => Some(checks),
+        }
+    }
+}
+
+impl fmt::Display for ReadRefusal {
+    fn fmt(&self, f: &mut fmt::Formatter<'_>) -> fmt::Result {
+        self.refusal().fmt(f)?;
+        match self.checks() {
+            None => Ok(()),
+            Some(Checks { found, worked_out }) => write!(f, ": {found} was found, {worked_out} worked out"),
+        }
+    }
+}
+
+impl Error for ReadRefusal {}
+
+impl From<ReadRefusal> for Refusal {
+    fn from(read: ReadRefusal) -> Refusal {
+        read.refusal()
+    }
+}
+
 /// An answer of the library that is 0 or a refusal's number.
 #[inline]
 pub(crate) fn of_number(number: u8) -> Result<(), Refusal> {
@@ -208,6 +329,6 @@ pub(crate) fn of_written(answer: u64) -> Result<usize, Refusal> {
 
 /// The refusal that the library answered with. It has no other numbers.
 #[inline]
-pub(crate) fn refused(number: u8) -> Refusal {
+fn refused(number: u8) -> Refusal {
     Refusal::from_number(number).expect("the number of a refusal")
 }

@@ -36,6 +36,8 @@ pub fn stamp_of(start: u32, tick: u32) -> Moment
     if LAST_STAMP < past as u64 {
         return Moment::Refused(Refusal {
             number: PERIOD_OVER,
+            found: 0,
+            worked_out: 0,
         });
     }
     Moment::Stamp(past)
@@ -48,6 +50,8 @@ pub fn due(start: u32, stamp: u32) -> DueTime
     if LAST_STAMP < stamp as u64 {
         return DueTime::Refused(Refusal {
             number: STAMP_TOO_HIGH,
+            found: 0,
+            worked_out: 0,
         });
     }
     DueTime::At(wrapping_add_u32(start, stamp))

@@ -73,7 +73,7 @@ sequences : (t : Outcome) (ts : List Taken) (old : List ℕ)
     → Fixes (λ (o : Taking × List ℕ × List ℕ × List ℕ × List ℕ). HearsSequence t ts old (o .0) (o .1) (o .2) (o .3) (o .4))
 sequences t ts old x y p q =
     let e = takes-one t (x .0, x .1, x .2, x .3) (y .0, y .1, y .2, y .3) (p .taken) (q .taken) in
-    let n = p .numbers ∙ sym (q .numbers) in
+    let n = p .answers ∙ sym (q .answers) in
     λ i. (e i .0, e i .1, e i .2, e i .3, n i)
 
 reports : (k : Kept) (firsts counts octets : List ℕ)

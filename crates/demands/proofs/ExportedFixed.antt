@@ -17,20 +17,20 @@ one-exported =
           let b = p .leaves-state ∙ sym (q .leaves-state) in
           let c = p .leaves-out ∙ sym (q .leaves-out) in
           λ i. (a i, b i, c i);
-      record-call = λ old k t x y p q.
+      record-call = λ told old k t x y p q.
           let a = p .says ∙ sym (q .says) in
           let b = p .leaves-head ∙ sym (q .leaves-head) in
           let c = p .leaves-marks ∙ sym (q .leaves-marks) in
           let d = p .leaves-elapsed ∙ sym (q .leaves-elapsed) in
           let e = p .leaves-sizes ∙ sym (q .leaves-sizes) in
           λ i. (a i, b i, c i, d i, e i);
-      hear-all = λ old k t ts numbers x y p q.
+      hear-all = λ told old k t ts answers x y p q.
           let a = p .0 .says ∙ sym (q .0 .says) in
           let b = p .0 .leaves-head ∙ sym (q .0 .leaves-head) in
           let c = p .0 .leaves-marks ∙ sym (q .0 .leaves-marks) in
           let d = p .0 .leaves-elapsed ∙ sym (q .0 .leaves-elapsed) in
           let e = p .0 .leaves-sizes ∙ sym (q .0 .leaves-sizes) in
-          let f = p .1 .leaves-numbers ∙ sym (q .1 .leaves-numbers) in
+          let f = p .1 .leaves-answers ∙ sym (q .1 .leaves-answers) in
           λ i. (a i, b i, c i, d i, e i, f i);
       join = λ old other k t x y p q.
           let a = p .says ∙ sym (q .says) in

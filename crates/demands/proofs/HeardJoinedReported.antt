@@ -8,6 +8,7 @@ use mathlib.Core.List.{List, map}
 use Rattle.units.specs.Refusals.{refusing, contradiction}
 use Rattle.fields.specs.Runs.{front}
 use Rattle.frame.specs.Paper.{CountPaper}
+use Rattle.frame.proofs.ChecksTold.{no-checks}
 use Rattle.reception.specs.declared.Joined.{Joined}
 use Rattle.reception.specs.declared.Joined.the-variants.{Done as JoinDone, Contradicted as NamesOne, Refused as NotJoined}
 use Rattle.reception.specs.declared.Report.{Report}
@@ -21,6 +22,7 @@ use Rattle.reception.specs.Joining.{HoldsBoth, JoinPaper, JoinOutcome, joins, j
 use Rattle.reception.specs.Missing.{GapsRight}
 use Rattle.reception.specs.Reporting.{Gap, gapsOf, gapsAfter, reportRecord, reportOf, Reports, roomOf}
 use Rattle.reception.proofs.DamagedExactly.{undamaged-passed}
+use Rattle.reception.proofs.HeardTold.{heard-checks}
 use Rattle.reception.proofs.HearingContradicts.{unexplained-packet, refused-packet, unexplained-closing, refused-closing}
 use Rattle.reception.proofs.JoinJudged.{Joinable}
 use Rattle.reception.proofs.JoinRefusedExactly.{refused-exactly}
@@ -31,6 +33,7 @@ use Rattle.reception.proofs.OnePaper.{reported-known}
 use Rattle.reception.proofs.ReportSaid.{report-done, closed-said, said-gaps}
 use Rattle.reception.proofs.WhatHearingAdds.{Sound, owned-key, packet-heard, closing-heard}
 use Rattle.reception.proofs.WhatJoiningAdds.{holds-either}
+use Rattle.demands.specs.Demand1.{TellsOf}
 use Rattle.demands.specs.Demand3.{Proper, OneSequence, HeardAs, WasTaken, Contradicted, OwnKey, JoinedAs, Accepted, emptyLike, Demand3}
 
 -- a proper record is one to which neither 14 nor 13 applies
@@ -63,16 +66,18 @@ module _ (k : Kept) (bearer period : ℕ) (f : List ℕ) (o : Outcome) (h : Hear
   heard-done : hearFrame k bearer period f .answer ≡ TakenDone
   heard-done = taken-done _ (sym (ap accepted-of (h .says)) ∙ t)
 
--- an answer with number 11 is the refusal
-taken-contradicts : (a : Taken) → takenPaper a .number ≡ contradiction → a ≡ NotTaken (refusing contradiction)
+-- an answer with number 11 is the refusal, which tells of no check
+taken-contradicts : (f : List ℕ) (a : Taken) → TellsOf f (takenPaper a) → takenPaper a .number ≡ contradiction → a ≡ NotTaken (refusing contradiction)
 unfolding takenPaper
-taken-contradicts TakenDone e = absurd (omega (arith, e))
-taken-contradicts (NotTaken r) e = ap (λ (n : ℕ). NotTaken (refusing n)) e
+taken-contradicts f TakenDone t e = absurd (omega (arith, e))
+taken-contradicts f (NotTaken r) t e =
+    let z = t .neither (λ h. omega (arith, e, h)) (λ h. omega (arith, e, h)) in
+    ap NotTaken (no-checks (r .number) (r .found) (r .«worked_out») z) ∙ ap (λ (n : ℕ). NotTaken (refusing n)) e
 
 -- what was refused with 11
 module _ (k : Kept) (bearer period : ℕ) (f : List ℕ) (o : Outcome) (h : HeardAs k bearer period f o) where
   heard-contradicts : Contradicted o → hearFrame k bearer period f .answer ≡ NotTaken (refusing contradiction)
-  heard-contradicts t = taken-contradicts _ (sym (ap number-of (h .says)) ∙ t)
+  heard-contradicts t = taken-contradicts f _ (heard-checks k bearer period f) (sym (ap number-of (h .says)) ∙ t)
 
   contradicts-heard : hearFrame k bearer period f ≡ refuses k contradiction → Contradicted o
   unfolding takenPaper

@@ -1,4 +1,5 @@
 pub mod AcceptedAgain
+pub mod ChecksAnswered
 pub mod EachFixed
 pub mod ExportedFixed
 pub mod HeardJoinedReported

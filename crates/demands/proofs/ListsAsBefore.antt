@@ -31,6 +31,7 @@ use Rattle.reception.specs.declared.Taken.the-variants.{Done as TakenDone, Refu
 use Rattle.reception.specs.Hearing.{Kept, Outcome, takenPaper}
 use Rattle.reception.specs.Joining.{JoinOutcome, joinedPaper}
 use Rattle.reception.specs.Reporting.{Gap, gapsAfter, reportRecord, roomOf}
+use Rattle.reception.specs.Several.{numberOf, answerOf}
 use Rattle.numbers.specs.Answers.{inOne}
 use Rattle.numbers_frames.specs.Reading.{ReadOut}
 use Rattle.numbers_sender.specs.Senders.{turnedState, sentState}
@@ -39,7 +40,7 @@ use Rattle.numbers_join.specs.Joins.{joinNumber, joinedHeadAfter, KeepsJoined}
 use Rattle.numbers_report.specs.Reports.{figuresOf, reportNumber, figuresAfter, gapsOut}
 use Rattle.demands.specs.ExportedRefusals.{Refusing, RefusingInOne, SameRecord, RefusedExported}
 use Rattle.demands.proofs.Refusals.{no-zero}
-use Rattle.demands.proofs.RecordRefusals.{fresh-leaves, hear-leaves, many-leaves, none-numbered, join-leaves}
+use Rattle.demands.proofs.RecordRefusals.{fresh-leaves, hear-leaves, many-leaves, none-told, join-leaves}
 
 -- an answer and a list that follow one test: as it was on the one side, so only the other is left
 beyond : (t : Bool) (n m r : ℕ) (old x new : List ℕ) → r ≡ (n when t otherwise m) → new ≡ (old when t otherwise x) → (r ≡ m → x ≡ old) → new ≡ old
@@ -67,10 +68,19 @@ unfolding inOne writtenPaper
 state-stays (WriteDone n) old s h = absurd (omega arith)
 state-stays (NotWritten r) old s h = refl
 
-not-taken : (a : Taken) → Refusing (takenPaper a .number) → takenPaper a .accepted ≡ 0
+not-taken : (told : Taken → ℕ) → told TakenDone ≡ 0 → (a : Taken) → Refusing (told a) → takenPaper a .accepted ≡ 0
 unfolding takenPaper
-not-taken TakenDone h = absurd (h refl)
-not-taken (NotTaken r) h = refl
+not-taken told z TakenDone h = absurd (h z)
+not-taken told z (NotTaken r) h = refl
+
+-- what is told where nothing is refused
+no-number : numberOf TakenDone ≡ 0
+unfolding takenPaper
+no-number = refl
+
+no-answer : answerOf TakenDone ≡ 0
+unfolding takenPaper
+no-answer = refl
 
 head-stays : (a : Taken) (old : List ℕ) (h : Head) → takenPaper a .accepted ≡ 0 → headAfter a old h ≡ old
 unfolding takenPaper
@@ -108,10 +118,10 @@ gaps-stay (NotReported x) number gaps figures old h = either-way (ltb (length fi
 gaps-stay (ReportDone r) number gaps figures old h = without-room (ltb (length figures) 7) old (front old (map number gaps)) h
 
 -- a record, where what is refused keeps it
-keeps-stay : (old : List ℕ) (k : Kept) (t : Outcome) (r : ℕ) (new m e s : List ℕ) → (takenPaper (t .answer) .accepted ≡ 0 → t .kept ≡ k)
-    → Keeps old k t r new m e s → Refusing r → SameRecord old k new m e s
-keeps-stay old k t r new m e s same w h =
-    let left : r ≡ takenPaper (t .answer) .number → takenPaper (t .answer) .accepted ≡ 0 = λ q. not-taken (t .answer) (subst Refusing q h) in (
+keeps-stay : (told : Taken → ℕ) → told TakenDone ≡ 0 → (old : List ℕ) (k : Kept) (t : Outcome) (r : ℕ) (new m e s : List ℕ)
+    → (takenPaper (t .answer) .accepted ≡ 0 → t .kept ≡ k) → Keeps told old k t r new m e s → Refusing r → SameRecord old k new m e s
+keeps-stay told z old k t r new m e s same w h =
+    let left : r ≡ told (t .answer) → takenPaper (t .answer) .accepted ≡ 0 = λ q. not-taken told z (t .answer) (subst Refusing q h) in (
       beyond (ltb (length old) 6) _ _ r old _ new (w .says) (w .leaves-head) (λ q. head-stays (t .answer) old (t .kept .head) (left q)),
       beyond (ltb (length old) 6) _ _ r (k .marks) _ m (w .says) (w .leaves-marks) (λ q. ap (λ (x : Kept). x .marks) (same (left q))),
       beyond (ltb (length old) 6) _ _ r (k .elapsed) _ e (w .says) (w .leaves-elapsed) (λ q. ap (λ (x : Kept). x .elapsed) (same (left q))),
@@ -152,12 +162,12 @@ refused-exported =
         beyond (ltb (length old) 6) _ _ r old _ new (w .says) (w .leaves-state) (λ q. state-stays (t .answer) old (t .sender) (subst RefusingInOne q h)),
         beyond (ltb (length old) 6) _ _ r out _ out′ (w .says) (w .leaves-out) (λ q. frame-stays (t .answer) frame out (subst RefusingInOne q h)),
       );
-      fresh = λ bearer period stamp old m e s r new m′ e′ s′ w h. keeps-stay old _ _ r new m′ e′ s′ (fresh-leaves bearer period stamp m e s .1) w h;
-      hear = λ bearer period f old m e s r new m′ e′ s′ w h. keeps-stay old _ _ r new m′ e′ s′ (hear-leaves _ bearer period f .1) w h;
-      hear-all = λ bearer period stamp frames ts old m e s numbers r new m′ e′ s′ numbers′ w v h. (
-        keeps-stay old _ _ r new m′ e′ s′ (many-leaves bearer period stamp _ frames (length numbers) .1) w h,
-        beyond (ltb (length old) 6) _ _ r numbers _ numbers′ (w .says) (v .leaves-numbers)
-            (λ q. none-numbered _ ts numbers (not-taken _ (subst Refusing q h))),
+      fresh = λ bearer period stamp old m e s r new m′ e′ s′ w h. keeps-stay numberOf no-number old _ _ r new m′ e′ s′ (fresh-leaves bearer period stamp m e s .1) w h;
+      hear = λ bearer period f old m e s r new m′ e′ s′ w h. keeps-stay answerOf no-answer old _ _ r new m′ e′ s′ (hear-leaves _ bearer period f .1) w h;
+      hear-all = λ bearer period stamp frames ts old m e s answers r new m′ e′ s′ answers′ w v h. (
+        keeps-stay numberOf no-number old _ _ r new m′ e′ s′ (many-leaves bearer period stamp _ frames (length answers) .1) w h,
+        beyond (ltb (length old) 6) _ _ r answers _ answers′ (w .says) (v .leaves-answers)
+            (λ q. none-told _ ts answers (not-taken numberOf no-number _ (subst Refusing q h))),
       );
       join = λ a b old other r new m′ e′ s′ w h. joined-stay old other a _ r new m′ e′ s′ (join-leaves a b .1) w h;
       report = λ head k firsts counts octets figures r f′ c′ o′ figures′ w h.

@@ -21,7 +21,7 @@ use Rattle.reception.specs.Adding.{packetContradicts}
 use Rattle.reception.specs.Damage.{placeWrong, placesWrong, closingOff, walkFails, damagedRecord}
 use Rattle.reception.specs.Walk.{reach, fits, mayEnd, walk, isExplained}
 use Rattle.reception.specs.Hearing.{listsDiffer, otherKey, hearPacket, hearRead, hearFrame, takenPaper}
-use Rattle.reception.specs.Several.{answers}
+use Rattle.reception.specs.Several.{answersTo}
 use Rattle.demands.specs.Examples.{Row, table, alike, agree, EachRow, none, row}
 
 alike-same : (xs ys : List ℕ) → alike xs ys ≡ true → xs ≡ ys
@@ -43,7 +43,7 @@ each-row (r ∷ rs) e =
 
 -- the test
 table-agrees : agree table ≡ true
-unfolding damaged openCall dataCall someOf reach fits mayEnd walk isExplained packetContradicts placeWrong placesWrong closingOff walkFails damagedRecord be octets divide lowDigits bitsOf check past dueAt nearest late duePaper sumOf dataWrong closingWrong lengthsWrong payloadOf lengthAt sumLengths readPaper readFrame readHeaded readBody dataFrame closingFrame lengthsFrame packed listsDiffer otherKey hearPacket hearRead hearFrame takenPaper answers alike agree
+unfolding damaged openCall dataCall someOf reach fits mayEnd walk isExplained packetContradicts placeWrong placesWrong closingOff walkFails damagedRecord be octets divide lowDigits bitsOf check past dueAt nearest late duePaper sumOf dataWrong closingWrong lengthsWrong payloadOf lengthAt sumLengths readPaper readFrame readHeaded readBody dataFrame closingFrame lengthsFrame packed listsDiffer otherKey hearPacket hearRead hearFrame takenPaper answersTo alike agree
 table-agrees = refl
 
 -- all of the table

@@ -7,6 +7,7 @@ use mathlib.Core.List.{List}
 use lib.Dec.{ltb, eqb}
 use lib.ListN.{length, getD, take, drop}
 use borrow.Author.Tests.{eqb-true, not-false}
+use Rattle.units.specs.declared.Refusal.{Refusal}
 use Rattle.units.specs.Limits.{lastStamp, mostPayload}
 use Rattle.units.specs.Refusals.{stampTooHigh, payloadTooLong, countsImpossible, noRoom}
 use Rattle.fields.specs.Numbers.{octets}
@@ -17,13 +18,13 @@ use Rattle.fields.proofs.Tests.{or-false}
 use Rattle.checks.specs.Check.{payloadCheck}
 use Rattle.frame.specs.declared.ClosingPdu.{ClosingPdu}
 use Rattle.frame.specs.declared.Read.{Read}
-use Rattle.frame.specs.declared.Read.the-variants.{Closing, Data, ClosingWithLengths}
+use Rattle.frame.specs.declared.Read.the-variants.{Closing, Data, ClosingWithLengths, Refused}
 use Rattle.frame.specs.declared.Written.{Written}
 use Rattle.frame.specs.declared.Written.the-variants.{Done}
 use Rattle.frame.specs.Counts.{dataWrong, closingWrong, lengthsWrong}
 use Rattle.frame.specs.Layout.{typeOf, control, payloadCheckIn, payloadPart, filled, lengthsOf, closingOf}
 use Rattle.frame.specs.Paper.{readPaper, writtenPaper}
-use Rattle.frame.specs.Reading.{refuse, checkWrong, said, readFrame}
+use Rattle.frame.specs.Reading.{checkWrong, said, readFrame}
 use Rattle.frame.specs.Writing.{refuseWrite, writeData, writeClosing, writeLengths, dataFrame, closingFrame, lengthsFrame, after}
 use Rattle.frame.proofs.Accepted.{good-read, read-closing, read-with-lengths}
 use Rattle.frame.proofs.OnePaper.{read-known, written-known}
@@ -35,9 +36,9 @@ use Rattle.demands.specs.Demand2.{ReadAs, BothChecks, SpareZero, Demand2
 use Rattle.demands.proofs.AcceptedAgain.{lengths-long, data-writable, closing-writable, lengths-writable, list-writable}
 
 -- an accepted answer is no refusal
-not-refused : (r : Read) → (readPaper r .kind ≡ 0 → ⊥) → (n : ℕ) → refuse n ≡ r → ⊥
+not-refused : (r : Read) → (readPaper r .kind ≡ 0 → ⊥) → (x : Refusal) → Refused x ≡ r → ⊥
 unfolding readPaper
-not-refused r h n e = h (sym (ap (λ (x : Read). readPaper x .kind) e))
+not-refused r h y e = h (sym (ap (λ (x : Read). readPaper x .kind) e))
 
 equal : (a b : ℕ) → not (eqb a b) ≡ false → a ≡ b
 equal a b e = eqb-true a b (not-false (eqb a b) e)

@@ -24,7 +24,7 @@ use Rattle.reception.specs.Adding.{packetContradicts, closingContradicts}
 use Rattle.reception.specs.Hearing.{Kept, Outcome, keptIn, heldBy, unused, unmatched, damagedKept, listsDiffer, otherKey, freshRecord, hearPacket, hearClosing, hearRead, hearFrame, takenPaper, Takes}
 use Rattle.reception.specs.Joining.{JoinPaper, JoinOutcome, capacitiesOff, otherRecord, lowest, ownClosingOff, joinRecords, joinedPaper, Joins}
 use Rattle.reception.specs.Reporting.{Gap, ReportPaper, gapsOf, gapsAfter, reportRecord, reportedPaper, roomOf, Reports}
-use Rattle.reception.specs.Several.{hearSequence, numbersAfter}
+use Rattle.reception.specs.Several.{hearSequence, answersAfter}
 use Rattle.several.specs.Rest.{HearsSequence}
 use Rattle.demands.specs.Demand1.{among, carries, ofFresh, ofHearingMany, ofJoining, ofReport, ofReading, ofHearing, Leaves}
 use Rattle.demands.proofs.Refusals.{accepted-of, no-zero, among-more, read-carries}
@@ -90,19 +90,19 @@ many-leaves bearer period stamp old frames room =
     whichever (OutcomeLeaves ofHearingMany old) _ _ (ltb lastStamp stamp) (refl, λ _. refl)
     (λ _. whichever (OutcomeLeaves ofHearingMany old) _ _ (ltb room (length frames)) (refl, λ _. refl) (λ _. (refl, no-zero))))
 
-pub none-numbered : (a : Taken) (ts : List Taken) (old : List ℕ) → takenPaper a .accepted ≡ 0 → numbersAfter a ts old ≡ old
+pub none-told : (a : Taken) (ts : List Taken) (old : List ℕ) → takenPaper a .accepted ≡ 0 → answersAfter a ts old ≡ old
 unfolding takenPaper
-none-numbered TakenDone ts old e = no-zero e
-none-numbered (NotTaken r) ts old e = refl
+none-told TakenDone ts old e = no-zero e
+none-told (NotTaken r) ts old e = refl
 
-pub many-carry : (bearer period stamp : ℕ) (old : Kept) (frames : List (List ℕ)) (ts : List Taken) (numbers : List ℕ) (r : Taking) (m e s new : List ℕ)
-    → HearsSequence (hearSequence bearer period stamp old frames (length numbers)) ts numbers r m e s new
+pub many-carry : (bearer period stamp : ℕ) (old : Kept) (frames : List (List ℕ)) (ts : List Taken) (answers : List ℕ) (r : Taking) (m e s new : List ℕ)
+    → HearsSequence (hearSequence bearer period stamp old frames (length answers)) ts answers r m e s new
     → Leaves ofHearingMany old (takenPaper (r .answer) .number) (takenPaper (r .answer) .accepted) (keptIn (r .head) m e s)
-    × (takenPaper (r .answer) .accepted ≡ 0 → new ≡ numbers)
-many-carry bearer period stamp old frames ts numbers r m e s new w =
-    let t = hearSequence bearer period stamp old frames (length numbers) in (
-      takes-leaves ofHearingMany old t r m e s (many-leaves bearer period stamp old frames (length numbers)) (w .taken),
-      λ z. w .numbers ∙ none-numbered (t .answer) ts numbers (sym (ap accepted-of (w .taken .says)) ∙ z),
+    × (takenPaper (r .answer) .accepted ≡ 0 → new ≡ answers)
+many-carry bearer period stamp old frames ts answers r m e s new w =
+    let t = hearSequence bearer period stamp old frames (length answers) in (
+      takes-leaves ofHearingMany old t r m e s (many-leaves bearer period stamp old frames (length answers)) (w .taken),
+      λ z. w .answers ∙ none-told (t .answer) ts answers (sym (ap accepted-of (w .taken .says)) ∙ z),
     )
 
 -- joining

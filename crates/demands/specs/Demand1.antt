@@ -18,6 +18,7 @@ use Rattle.frame.specs.declared.Listed.{Listed}
 use Rattle.frame.specs.declared.Written.{Written}
 use Rattle.frame.specs.Paper.{readPaper, listedPaper, writtenPaper, CountPaper}
 use Rattle.frame.specs.Reading.{readFrame}
+use Rattle.frame.specs.WrongChecks.{ChecksTold}
 use Rattle.frame.specs.Writing.{writeData, writeClosing, writeLengths, dataFrame, closingFrame, lengthsFrame}
 use Rattle.reader.specs.Lists.{Lists}
 use Rattle.writer.specs.Promise.{Wrote}
@@ -30,10 +31,10 @@ use Rattle.reception.specs.declared.Joining.{Joining}
 use Rattle.reception.specs.declared.Reported.{Reported}
 use Rattle.reception.specs.declared.Taken.{Taken}
 use Rattle.reception.specs.declared.Taking.{Taking}
-use Rattle.reception.specs.Hearing.{Kept, keptIn, unused, freshRecord, hearFrame, takenPaper, Takes}
+use Rattle.reception.specs.Hearing.{Kept, keptIn, unused, emptyKept, freshRecord, hearFrame, takenPaper, Takes}
 use Rattle.reception.specs.Joining.{joinRecords, joinedPaper, Joins}
 use Rattle.reception.specs.Reporting.{reportedPaper, Reports}
-use Rattle.reception.specs.Several.{hearSequence}
+use Rattle.reception.specs.Several.{answerOf, answersTo, hearSequence}
 use Rattle.several.specs.Rest.{HearsSequence}
 
 -- a number is one of these
@@ -123,6 +124,16 @@ TurnsOn numbers s r =
 abbrev pub Leaves : List ℕ → Kept → ℕ → ℕ → Kept → Type 0
 Leaves numbers old number taken new = (carries numbers number taken ≡ true) × (taken ≡ 0 → new ≡ old)
 
+-- document 02, request 6: what an answer about the frame s tells of its checks
+abbrev pub TellsOf : List ℕ → CountPaper → Type 0
+TellsOf s p = ChecksTold s (p .number) (p .found) (p .worked)
+
+-- the answers to many frames, each in one number, in front of a list: each carries its number, and tells of its own frame's checks
+pub data EachTold : List (List ℕ) → List ℕ → Type 0 where
+  none : {rest : List ℕ} → EachTold [] rest
+  told : {f : List ℕ} {fs : List (List ℕ)} {ns : List ℕ} (t : Taken) → carries ofHearing (takenPaper t .number) (takenPaper t .accepted) ≡ true
+      → TellsOf f (takenPaper t) → EachTold fs ns → EachTold (f ∷ fs) (answerOf t ∷ ns)
+
 -- the demand, call by call: of any outcome that meets the promise
 pub record Demand1 : Type 0 where
   pub reading : (s : List ℕ) (r : Read) → readPaper r ≡ readPaper (readFrame s) → carries ofReading (readPaper r .number) (readPaper r .kind) ≡ true
@@ -151,10 +162,21 @@ pub record Demand1 : Type 0 where
       → Leaves ofFresh (unused marks elapsed sizes) (takenPaper (r .answer) .number) (takenPaper (r .answer) .accepted) (keptIn (r .head) m e s)
   pub hearing : (k : Kept) (bearer period : ℕ) (f : List ℕ) (r : Taking) (m e s : List ℕ) → Takes (hearFrame k bearer period f) r m e s
       → Leaves ofHearing k (takenPaper (r .answer) .number) (takenPaper (r .answer) .accepted) (keptIn (r .head) m e s)
-  pub hearing-many : (bearer period stamp : ℕ) (old : Kept) (frames : List (List ℕ)) (ts : List Taken) (numbers : List ℕ) (r : Taking) (m e s new : List ℕ)
-      → HearsSequence (hearSequence bearer period stamp old frames (length numbers)) ts numbers r m e s new
+  pub hearing-many : (bearer period stamp : ℕ) (old : Kept) (frames : List (List ℕ)) (ts : List Taken) (answers : List ℕ) (r : Taking) (m e s new : List ℕ)
+      → HearsSequence (hearSequence bearer period stamp old frames (length answers)) ts answers r m e s new
       → Leaves ofHearingMany old (takenPaper (r .answer) .number) (takenPaper (r .answer) .accepted) (keptIn (r .head) m e s)
-      × (takenPaper (r .answer) .accepted ≡ 0 → new ≡ numbers)
+      × (takenPaper (r .answer) .accepted ≡ 0 → new ≡ answers)
+  -- document 02, request 6: "The check routine and everything above it shall give, with refusals 4 and 7, the check found and the check worked
+  -- out", of each call that reads a frame
+  pub reading-tells : (s : List ℕ) (r : Read) → readPaper r ≡ readPaper (readFrame s)
+      → ChecksTold s (readPaper r .number) (readPaper r .found) (readPaper r .worked)
+  pub lengths-tell : (s old : List ℕ) (r : Listed) (new : List ℕ) → Lists s old r new → TellsOf s (listedPaper r)
+  pub hearing-tells : (k : Kept) (bearer period : ℕ) (f : List ℕ) (r : Taking) (m e s : List ℕ) → Takes (hearFrame k bearer period f) r m e s
+      → TellsOf f (takenPaper (r .answer))
+  pub each-told : (bearer period stamp : ℕ) (old : Kept) (frames : List (List ℕ)) (answers : List ℕ) (r : Taking) (m e s new : List ℕ)
+      → HearsSequence (hearSequence bearer period stamp old frames (length answers))
+      (answersTo (emptyKept bearer period stamp (length (old .marks))) bearer period frames) answers r m e s new
+      → takenPaper (r .answer) .accepted ≡ 1 → EachTold frames new
   pub joining : (a b : Kept) (r : Joining) (m e s : List ℕ) → Joins (joinRecords a b) r m e s
       → Leaves ofJoining a (joinedPaper (r .answer) .number) (joinedPaper (r .answer) .accepted) (keptIn (r .head) m e s)
   pub reporting : (k : Kept) (firsts counts octets : List ℕ) (r : Reported) (f c o : List ℕ) → Reports k firsts counts octets r f c o

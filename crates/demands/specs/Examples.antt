@@ -1,5 +1,5 @@
 -- Document 01's starred bench examples in one table (A to E, G, H, I): what is worked out, beside what the document has. D is as the rule
--- has it, and as printed it is refused with 7. Assumes nothing.
+-- has it, and as printed it is refused with 7, its check found 514 and worked out 49. Assumes nothing.
 use Prim.Native.Nat.{ℕ, suc}
 use mathlib.Core.Path.{_≡_}
 use mathlib.Core.Bool.{Bool, true, false, _&&_}
@@ -15,7 +15,7 @@ use Rattle.sender.specs.declared.Sender.{Sender}
 use Rattle.sender.specs.State.{freshSender, closingBy}
 use Rattle.sender.specs.Calls.{openCall, dataCall}
 use Rattle.reception.specs.Hearing.{emptyKept}
-use Rattle.reception.specs.Several.{answers, numberOf}
+use Rattle.reception.specs.Several.{answersTo, numberOf}
 
 -- "stamp 0, first packet, no payload", as document 01 prints it
 abbrev pub A : List ℕ
@@ -53,10 +53,11 @@ afterB = dataCall opened 1 12 .sender
 abbrev pub dataBy : Sender → List ℕ → List ℕ
 dataBy s p = dataFrame (s .stamp) (s .number .0) (s .elapsed .0) p
 
--- what reading gives: the refusal's number or 0, one more than the type, stamp, number, elapsed, the two totals, the payload's length
+-- what reading gives: the refusal's number or 0, the check found and the one worked out, one more than the type, stamp, number, elapsed, the
+-- two totals, the payload's length
 abbrev readPaperList : ReadPaper → List ℕ
 readPaperList p =
-    p .number ∷ p .kind ∷ p .stamp ∷ p .packet ∷ p .elapsed ∷ p .packets ∷ p .octets ∷ p .payload ∷ []
+    p .number ∷ p .found ∷ p .worked ∷ p .kind ∷ p .stamp ∷ p .packet ∷ p .elapsed ∷ p .packets ∷ p .octets ∷ p .payload ∷ []
 
 -- of octets
 abbrev pub reading : List ℕ → List ℕ
@@ -64,7 +65,7 @@ reading s = readPaperList (readPaper (readFrame s))
 
 -- the refusals' numbers, or 0, of frames heard one after another into an empty record of three places
 abbrev pub hearing : List (List ℕ) → List ℕ
-hearing frames = map numberOf (answers (emptyKept 7 3 0 3) 7 3 frames)
+hearing frames = map numberOf (answersTo (emptyKept 7 3 0 3) 7 3 frames)
 
 -- when a frame is due: the refusal's number or 0, and the tick
 abbrev dueList : DuePaper → List ℕ
@@ -97,15 +98,15 @@ a gives b = record { worked = a; printed = b }
 abbrev pub table : List Row
 table =
     (dataBy opened [] gives A)
-    ∷ (reading A gives 0 ∷ 2 ∷ 0 ∷ 0 ∷ 0 ∷ 0 ∷ 0 ∷ 0 ∷ [])
+    ∷ (reading A gives 0 ∷ 0 ∷ 0 ∷ 2 ∷ 0 ∷ 0 ∷ 0 ∷ 0 ∷ 0 ∷ 0 ∷ [])
     ∷ (dataBy opened (1 ∷ []) gives B)
-    ∷ (reading B gives 0 ∷ 2 ∷ 0 ∷ 0 ∷ 0 ∷ 0 ∷ 0 ∷ 1 ∷ [])
+    ∷ (reading B gives 0 ∷ 0 ∷ 0 ∷ 2 ∷ 0 ∷ 0 ∷ 0 ∷ 0 ∷ 0 ∷ 1 ∷ [])
     ∷ (closingFrame (closingBy afterB) gives C)
-    ∷ (reading C gives 0 ∷ 1 ∷ 0 ∷ 1 ∷ 1 ∷ 1 ∷ 1 ∷ 0 ∷ [])
+    ∷ (reading C gives 0 ∷ 0 ∷ 0 ∷ 1 ∷ 0 ∷ 1 ∷ 1 ∷ 1 ∷ 1 ∷ 0 ∷ [])
     ∷ (lengthsFrame (closingBy afterB) (1 ∷ []) gives D)
-    ∷ (reading D gives 0 ∷ 4 ∷ 0 ∷ 1 ∷ 1 ∷ 1 ∷ 1 ∷ 0 ∷ [])
-    ∷ (reading D-printed gives 7 ∷ 0 ∷ 0 ∷ 0 ∷ 0 ∷ 0 ∷ 0 ∷ 0 ∷ [])
-    ∷ (reading E gives 0 ∷ 1 ∷ 0 ∷ 0 ∷ 0 ∷ 0 ∷ 0 ∷ 0 ∷ [])
+    ∷ (reading D gives 0 ∷ 0 ∷ 0 ∷ 4 ∷ 0 ∷ 1 ∷ 1 ∷ 1 ∷ 1 ∷ 0 ∷ [])
+    ∷ (reading D-printed gives 7 ∷ 514 ∷ 49 ∷ 0 ∷ 0 ∷ 0 ∷ 0 ∷ 0 ∷ 0 ∷ 0 ∷ [])
+    ∷ (reading E gives 0 ∷ 0 ∷ 0 ∷ 1 ∷ 0 ∷ 0 ∷ 0 ∷ 0 ∷ 0 ∷ 0 ∷ [])
     -- G: "after hearing B, number 1 at elapsed 2: 11; number 2 at elapsed 1: accepted"
     ∷ (hearing (B ∷ dataFrame 0 1 2 (9 ∷ []) ∷ []) gives 0 ∷ 11 ∷ [])
     ∷ (hearing (B ∷ dataFrame 0 2 1 (9 ∷ []) ∷ []) gives 0 ∷ 0 ∷ [])

@@ -13,12 +13,12 @@ use Rattle.sender.specs.declared.Turning.{Turning}
 use Rattle.reception.specs.declared.Taken.{Taken}
 use Rattle.reception.specs.Hearing.{Kept, keptIn, unused, freshRecord, hearFrame}
 use Rattle.reception.specs.Joining.{joinRecords}
-use Rattle.reception.specs.Several.{hearSequence}
+use Rattle.reception.specs.Several.{numberOf, answerOf, hearSequence}
 use Rattle.numbers_frames.specs.Reading.{ReadOut, ListsInOne}
 use Rattle.numbers_frames.specs.Writing.{Writes}
 use Rattle.numbers_sender.specs.Senders.{MakesFresh, TurnsState, SendsState}
 use Rattle.numbers_head.specs.Heads.{headOf}
-use Rattle.numbers_record.specs.Records.{Keeps, Numbers}
+use Rattle.numbers_record.specs.Records.{Keeps, Answers}
 use Rattle.numbers_join.specs.Joins.{KeepsJoined}
 use Rattle.numbers_report.specs.Reports.{Figures}
 
@@ -48,14 +48,14 @@ pub record RefusedExported : Type 0 where
       → RefusingInOne r → (new ≡ old) × (out′ ≡ out)
   -- `quimdoral_fresh`, `quimdoral_hear`, `quimdoral_hear_all`
   pub fresh : (bearer period stamp : ℕ) (old m e s : List ℕ) (r : ℕ) (new m′ e′ s′ : List ℕ)
-      → Keeps old (unused m e s) (freshRecord bearer period stamp m e s) r new m′ e′ s′ → Refusing r → SameRecord old (unused m e s) new m′ e′ s′
+      → Keeps numberOf old (unused m e s) (freshRecord bearer period stamp m e s) r new m′ e′ s′ → Refusing r → SameRecord old (unused m e s) new m′ e′ s′
   pub hear : (bearer period : ℕ) (f old m e s : List ℕ) (r : ℕ) (new m′ e′ s′ : List ℕ)
-      → Keeps old (keptIn (headOf old) m e s) (hearFrame (keptIn (headOf old) m e s) bearer period f) r new m′ e′ s′ → Refusing r
+      → Keeps answerOf old (keptIn (headOf old) m e s) (hearFrame (keptIn (headOf old) m e s) bearer period f) r new m′ e′ s′ → Refusing r
       → SameRecord old (keptIn (headOf old) m e s) new m′ e′ s′
-  pub hear-all : (bearer period stamp : ℕ) (frames : List (List ℕ)) (ts : List Taken) (old m e s numbers : List ℕ) (r : ℕ) (new m′ e′ s′ numbers′ : List ℕ)
-      → Keeps old (unused m e s) (hearSequence bearer period stamp (unused m e s) frames (length numbers)) r new m′ e′ s′
-      → Numbers old (hearSequence bearer period stamp (unused m e s) frames (length numbers)) ts numbers numbers′ → Refusing r
-      → SameRecord old (unused m e s) new m′ e′ s′ × (numbers′ ≡ numbers)
+  pub hear-all : (bearer period stamp : ℕ) (frames : List (List ℕ)) (ts : List Taken) (old m e s answers : List ℕ) (r : ℕ) (new m′ e′ s′ answers′ : List ℕ)
+      → Keeps numberOf old (unused m e s) (hearSequence bearer period stamp (unused m e s) frames (length answers)) r new m′ e′ s′
+      → Answers old (hearSequence bearer period stamp (unused m e s) frames (length answers)) ts answers answers′ → Refusing r
+      → SameRecord old (unused m e s) new m′ e′ s′ × (answers′ ≡ answers)
   -- `quimdoral_join`, `quimdoral_report`
   pub join : (a b : Kept) (old other : List ℕ) (r : ℕ) (new m′ e′ s′ : List ℕ) → KeepsJoined old other a (joinRecords a b) r new m′ e′ s′
       → RefusingInOne r → SameRecord old a new m′ e′ s′

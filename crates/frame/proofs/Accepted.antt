@@ -8,14 +8,16 @@ use mathlib.Core.Bool.{false}
 use lib.ListN.{length}
 use lib.Dec.{eqb, ltb}
 use borrow.Author.Tests.{le-ltb, ne-eqb, ltb-false, eqb-false}
+use Rattle.units.specs.declared.Refusal.{Refusal}
 use Rattle.units.specs.Limits.{lastStamp}
+use Rattle.units.specs.Refusals.{refusing}
 use Rattle.fields.proofs.Choosing.{past}
 use Rattle.frame.specs.declared.Read.{Read}
 use Rattle.frame.specs.declared.DataPdu.{DataPdu}
 use Rattle.frame.specs.declared.ClosingPdu.{ClosingPdu}
-use Rattle.frame.specs.declared.Read.the-variants.{Closing, Data, ClosingWithLengths}
+use Rattle.frame.specs.declared.Read.the-variants.{Closing, Data, ClosingWithLengths, Refused}
 use Rattle.frame.specs.Layout.{control, least, typeOf, stampOf, dataOf, closingOf}
-use Rattle.frame.specs.Reading.{readBody, readHeaded, readFrame, refuse, headerWrong, lengthWrong, checkWrong, countsWrong, said}
+use Rattle.frame.specs.Reading.{readBody, readHeaded, readFrame, refuse, refuseHeader, refusePayload, headerWrong, lengthWrong, checkWrong, countsWrong, said}
 
 pub control-lt : (t : ℕ) → control t < least t
 control-lt zero = omega arith
@@ -67,18 +69,18 @@ read-good s g =
     )
 
 -- an answer that is no refusal
-pub good-read : (s : List ℕ) (x : Read) → ((n : ℕ) → refuse n ≡ x → ⊥) → readFrame s ≡ x → Good s × (said (typeOf s) s ≡ x)
+pub good-read : (s : List ℕ) (x : Read) → ((r : Refusal) → Refused r ≡ x → ⊥) → readFrame s ≡ x → Good s × (said (typeOf s) s ≡ x)
 unfolding readFrame readHeaded readBody
 good-read s x acc e =
-    let p1 = past (refuse 1) _ x (eqb (length s) 0) (acc 1) e in
-    let p2 = past (refuse 2) _ x (eqb (typeOf s) 2) (acc 2) (p1 .1) in
-    let p3 = past (refuse 3) _ x (ltb 3 (typeOf s)) (acc 3) (p2 .1) in
-    let p4 = past (refuse 1) _ x (ltb (length s) (least (typeOf s))) (acc 1) (p3 .1) in
-    let p5 = past (refuse 4) _ x (headerWrong (control (typeOf s)) s) (acc 4) (p4 .1) in
-    let p6 = past (refuse 5) _ x (ltb lastStamp (stampOf s)) (acc 5) (p5 .1) in
-    let p7 = past (refuse 6) _ x (lengthWrong (typeOf s) s) (acc 6) (p6 .1) in
-    let p8 = past (refuse 7) _ x (checkWrong (typeOf s) s) (acc 7) (p7 .1) in
-    let p9 = past (refuse 8) (said (typeOf s) s) x (countsWrong (typeOf s) s) (acc 8) (p8 .1) in
+    let p1 = past (refuse 1) _ x (eqb (length s) 0) (acc (refusing 1)) e in
+    let p2 = past (refuse 2) _ x (eqb (typeOf s) 2) (acc (refusing 2)) (p1 .1) in
+    let p3 = past (refuse 3) _ x (ltb 3 (typeOf s)) (acc (refusing 3)) (p2 .1) in
+    let p4 = past (refuse 1) _ x (ltb (length s) (least (typeOf s))) (acc (refusing 1)) (p3 .1) in
+    let p5 = past (refuseHeader (control (typeOf s)) s) _ x (headerWrong (control (typeOf s)) s) (acc _) (p4 .1) in
+    let p6 = past (refuse 5) _ x (ltb lastStamp (stampOf s)) (acc (refusing 5)) (p5 .1) in
+    let p7 = past (refuse 6) _ x (lengthWrong (typeOf s) s) (acc (refusing 6)) (p6 .1) in
+    let p8 = past (refusePayload (control (typeOf s)) s) _ x (checkWrong (typeOf s) s) (acc _) (p7 .1) in
+    let p9 = past (refuse 8) (said (typeOf s) s) x (countsWrong (typeOf s) s) (acc (refusing 8)) (p8 .1) in
     let n0 = eqb-false (length s) 0 (p1 .0) in (
       record {
         some = omega arith;
@@ -127,33 +129,33 @@ lengths-type (suc (suc t)) s c h g e = (three (suc (suc t)) h g (omega arith), c
 
 pub read-data : (s : List ℕ) (d : DataPdu) → readFrame s ≡ Data d → Good s × (typeOf s ≡ 1) × (dataOf s ≡ d)
 read-data s d e =
-    let g = good-read s (Data d) (λ n h. no-data n h) e in
+    let g = good-read s (Data d) no-data e in
     let t = data-type (typeOf s) s d (g .1) in
     (g .0, t .0, t .1)
   where
-    no-data : (n : ℕ) → refuse n ≡ Data d → ⊥
-    no-data n h =
+    no-data : (r : Refusal) → Refused r ≡ Data d → ⊥
+    no-data r h =
         let z : _≡_ {A = ℕ} 0 1 = cc in
         omega arith
 
 pub read-closing : (s : List ℕ) (c : ClosingPdu) → readFrame s ≡ Closing c → Good s × (typeOf s ≡ 0) × (closingOf s ≡ c)
 read-closing s c e =
-    let g = good-read s (Closing c) (λ n h. no-closing n h) e in
+    let g = good-read s (Closing c) no-closing e in
     let t = closing-type (typeOf s) s c (g .1) in
     (g .0, t .0, t .1)
   where
-    no-closing : (n : ℕ) → refuse n ≡ Closing c → ⊥
-    no-closing n h =
+    no-closing : (r : Refusal) → Refused r ≡ Closing c → ⊥
+    no-closing r h =
         let z : _≡_ {A = ℕ} 0 1 = cc in
         omega arith
 
 pub read-with-lengths : (s : List ℕ) (c : ClosingPdu) → readFrame s ≡ ClosingWithLengths c → Good s × (typeOf s ≡ 3) × (closingOf s ≡ c)
 read-with-lengths s c e =
-    let g = good-read s (ClosingWithLengths c) (λ n h. no-lengths n h) e in
+    let g = good-read s (ClosingWithLengths c) no-lengths e in
     let t = lengths-type (typeOf s) s c (g .0 .not-two) (g .0 .known) (g .1) in
     (g .0, t .0, t .1)
   where
-    no-lengths : (n : ℕ) → refuse n ≡ ClosingWithLengths c → ⊥
-    no-lengths n h =
+    no-lengths : (r : Refusal) → Refused r ≡ ClosingWithLengths c → ⊥
+    no-lengths r h =
         let z : _≡_ {A = ℕ} 0 1 = cc in
         omega arith

@@ -11,7 +11,7 @@ use Rattle.frame.specs.declared.ClosingPdu.{ClosingPdu}
 use Rattle.frame.specs.declared.Read.the-variants.{Closing, Data, ClosingWithLengths}
 use Rattle.frame.specs.Layout.{payloadOf, lengthAt, sumLengths}
 use Rattle.frame.specs.Counts.{dataWrong, closingWrong, lengthsWrong}
-use Rattle.frame.specs.Reading.{refuse, readFrame, readHeaded, readBody}
+use Rattle.frame.specs.Reading.{refuseCheck, readFrame, readHeaded, readBody}
 use Rattle.frame.specs.Writing.{dataFrame, closingFrame, lengthsFrame, packed}
 
 -- a first packet with a payload of so many octets
@@ -71,7 +71,7 @@ D-read = refl
 abbrev pub D-printed : List ℕ
 D-printed = 0x30 ∷ 0 ∷ 0 ∷ 0 ∷ 1 ∷ 0 ∷ 0 ∷ 0 ∷ 1 ∷ 0 ∷ 0 ∷ 1 ∷ 0 ∷ 0 ∷ 0 ∷ 0 ∷ 1 ∷ 0x02 ∷ 0x02 ∷ 0x00 ∷ 0x10 ∷ []
 
-D-printed-read : readFrame D-printed ≡ refuse payloadCheckWrong
+D-printed-read : readFrame D-printed ≡ refuseCheck payloadCheckWrong 514 49
 unfolding be divide lowDigits bitsOf check readFrame readHeaded readBody closingWrong lengthsWrong lengthAt sumLengths
 D-printed-read = refl
 

@@ -1,5 +1,6 @@
 pub mod Accepted
 pub mod BenchExamples
+pub mod ChecksTold
 pub mod Fitting
 pub mod LengthsBack
 pub mod NotJudged

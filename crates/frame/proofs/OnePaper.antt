@@ -1,6 +1,7 @@
 -- An answer is known from its number and values: no two answers have the same. Assumes nothing.
 use Prim.Native.Nat.{ℕ, zero, suc}
 use mathlib.Core.Path.{_≡_, refl, sym, ap, _∙_}
+use Rattle.units.specs.Refusals.{refusingCheck}
 use Rattle.frame.specs.declared.Read.{Read}
 use Rattle.frame.specs.declared.Read.the-variants.{Closing, Data, ClosingWithLengths, Refused as NotRead}
 use Rattle.frame.specs.declared.Written.{Written}
@@ -22,7 +23,7 @@ closingFrom p =
 
 -- the answer that a paper is of
 readFrom : ℕ → ReadPaper → Read
-readFrom zero p = NotRead (record { number = p .number })
+readFrom zero p = NotRead (refusingCheck (p .number) (p .found) (p .worked))
 readFrom (suc zero) p = Closing (closingFrom p)
 readFrom (suc (suc zero)) p =
     Data
@@ -40,7 +41,7 @@ pub read-known : (a b : Read) → readPaper a ≡ readPaper b → a ≡ b
 read-known a b e = sym (read-from a) ∙ ap (λ (p : ReadPaper). readFrom (p .kind) p) e ∙ read-from b
 
 writtenFrom : ℕ → CountPaper → Written
-writtenFrom zero p = NotWritten (record { number = p .number })
+writtenFrom zero p = NotWritten (refusingCheck (p .number) (p .found) (p .worked))
 writtenFrom (suc k) p = Done (p .count)
 
 written-from : (a : Written) → writtenFrom (writtenPaper a .accepted) (writtenPaper a) ≡ a
@@ -52,7 +53,7 @@ pub written-known : (a b : Written) → writtenPaper a ≡ writtenPaper b → a 
 written-known a b e = sym (written-from a) ∙ ap (λ (p : CountPaper). writtenFrom (p .accepted) p) e ∙ written-from b
 
 listedFrom : ℕ → CountPaper → Listed
-listedFrom zero p = NotListed (record { number = p .number })
+listedFrom zero p = NotListed (refusingCheck (p .number) (p .found) (p .worked))
 listedFrom (suc k) p = Lengths (record { 0 = p .count })
 
 listed-from : (a : Listed) → listedFrom (listedPaper a .accepted) (listedPaper a) ≡ a

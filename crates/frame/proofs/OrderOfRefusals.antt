@@ -6,7 +6,7 @@ use Rattle.fields.specs.Numbers.{be}
 use Rattle.checks.specs.Check.{divide, lowDigits, bitsOf, check}
 use Rattle.frame.specs.Layout.{payloadOf}
 use Rattle.frame.specs.Counts.{dataWrong, closingWrong}
-use Rattle.frame.specs.Reading.{refuse, readFrame, readHeaded, readBody}
+use Rattle.frame.specs.Reading.{refuse, refuseCheck, readFrame, readHeaded, readBody}
 
 -- 2 before 1: Type 2, and too short for any type
 two-before-short : readFrame (0x20 ∷ []) ≡ refuse typeTwo
@@ -19,7 +19,7 @@ unfolding readFrame
 short-before-header = refl
 
 -- 4 before 5: a wrong header check, and stamp 65,535
-header-before-stamp : readFrame (0x10 ∷ 0xFF ∷ 0xFF ∷ 0 ∷ 0 ∷ 0 ∷ 0 ∷ 0 ∷ 0 ∷ 0 ∷ 0 ∷ []) ≡ refuse headerCheckWrong
+header-before-stamp : readFrame (0x10 ∷ 0xFF ∷ 0xFF ∷ 0 ∷ 0 ∷ 0 ∷ 0 ∷ 0 ∷ 0 ∷ 0 ∷ 0 ∷ []) ≡ refuseCheck headerCheckWrong 0 19
 unfolding be divide lowDigits bitsOf check readFrame readHeaded
 header-before-stamp = refl
 
@@ -34,6 +34,6 @@ unfolding be divide lowDigits bitsOf check readFrame readHeaded readBody closing
 size-before-payload = refl
 
 -- 7 before 8: a payload check that is wrong, and packet number 65,535
-payload-before-counts : readFrame (0x10 ∷ 0 ∷ 0 ∷ 0xFF ∷ 0xFF ∷ 0 ∷ 0 ∷ 0 ∷ 0 ∷ 0x1C ∷ 0x01 ∷ []) ≡ refuse payloadCheckWrong
+payload-before-counts : readFrame (0x10 ∷ 0 ∷ 0 ∷ 0xFF ∷ 0xFF ∷ 0 ∷ 0 ∷ 0 ∷ 0 ∷ 0x1C ∷ 0x01 ∷ []) ≡ refuseCheck payloadCheckWrong 1 0
 unfolding be divide lowDigits bitsOf check readFrame readHeaded readBody dataWrong payloadOf
 payload-before-counts = refl

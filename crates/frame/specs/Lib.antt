@@ -5,3 +5,4 @@ pub mod Paper
 pub mod Reading
 pub mod Sizes
 pub mod Writing
+pub mod WrongChecks

@@ -12,6 +12,8 @@ use Rattle.frame.specs.declared.ClosingPdu.{ClosingPdu}
 -- of reading: the refusal's number, or 0; one more than the PDU type; the fields; and the payload's length
 pub record ReadPaper : Type 0 where
   pub number : ℕ
+  pub found : ℕ
+  pub worked : ℕ
   pub kind : ℕ
   pub stamp : ℕ
   pub packet : ℕ
@@ -25,6 +27,8 @@ abbrev closingPaper : ℕ → ClosingPdu → ReadPaper
 closingPaper kind c =
     record {
       number = 0;
+      found = 0;
+      worked = 0;
       kind = kind;
       stamp = c .stamp;
       packet = c .number .0;
@@ -40,6 +44,8 @@ readPaper (Closing c) = closingPaper 1 c
 readPaper (Data d) =
     record {
       number = 0;
+      found = 0;
+      worked = 0;
       kind = 2;
       stamp = d .stamp;
       packet = d .number .0;
@@ -50,20 +56,22 @@ readPaper (Data d) =
     }
 readPaper (ClosingWithLengths c) = closingPaper 4 c
 readPaper (NotRead r) =
-    record { number = r .number; kind = 0; stamp = 0; packet = 0; elapsed = 0; packets = 0; octets = 0; payload = 0 }
+    record { number = r .number; found = r .found; worked = r .«worked_out»; kind = 0; stamp = 0; packet = 0; elapsed = 0; packets = 0; octets = 0; payload = 0 }
 
 -- of writing and listing: the refusal's number, or 0; 1 where accepted; and how many were written
 pub record CountPaper : Type 0 where
   pub number : ℕ
+  pub found : ℕ
+  pub worked : ℕ
   pub accepted : ℕ
   pub count : ℕ
 
 -- of writing: how many octets
 unfoldable pub writtenPaper : Written → CountPaper
-writtenPaper (Done n) = record { number = 0; accepted = 1; count = n }
-writtenPaper (NotWritten r) = record { number = r .number; accepted = 0; count = 0 }
+writtenPaper (Done n) = record { number = 0; found = 0; worked = 0; accepted = 1; count = n }
+writtenPaper (NotWritten r) = record { number = r .number; found = r .found; worked = r .«worked_out»; accepted = 0; count = 0 }
 
 -- of reading lengths into a lent list: how many lengths
 unfoldable pub listedPaper : Listed → CountPaper
-listedPaper (Lengths n) = record { number = 0; accepted = 1; count = n .0 }
-listedPaper (NotListed r) = record { number = r .number; accepted = 0; count = 0 }
+listedPaper (Lengths n) = record { number = 0; found = 0; worked = 0; accepted = 1; count = n .0 }
+listedPaper (NotListed r) = record { number = r .number; found = r .found; worked = r .«worked_out»; accepted = 0; count = 0 }

@@ -6,7 +6,7 @@ use mathlib.Core.Bool.{Bool, false, not, _||_}
 use lib.ListN.{length, take}
 use lib.Dec.{ltb, eqb}
 use Rattle.units.specs.Limits.{mostPayload, lastStamp}
-use Rattle.units.specs.Refusals.{refusing, tooShort, typeTwo, typeUnknown, headerCheckWrong, stampTooHigh, sizeWrong, payloadCheckWrong, countsImpossible}
+use Rattle.units.specs.Refusals.{refusing, refusingCheck, tooShort, typeTwo, typeUnknown, headerCheckWrong, stampTooHigh, sizeWrong, payloadCheckWrong, countsImpossible}
 use Rattle.fields.specs.Choice.{_when_otherwise_}
 use Rattle.checks.specs.Check.{headerCheck, payloadCheck}
 use Rattle.frame.specs.declared.Read.{Read}
@@ -19,6 +19,10 @@ use Rattle.frame.specs.Counts.{dataWrong, closingWrong, lengthsWrong}
 abbrev pub refuse : ℕ → Read
 refuse n = Refused (refusing n)
 
+-- the refusal of a wrong check, with the check found and the check worked out
+abbrev pub refuseCheck : ℕ → ℕ → ℕ → Read
+refuseCheck n found worked = Refused (refusingCheck n found worked)
+
 -- "The header check covers the control part", of n octets
 abbrev pub headerWrong : ℕ → List ℕ → Bool
 headerWrong n s = not (eqb (headerCheck (take n s)) (headerCheckIn n s))
@@ -26,6 +30,14 @@ headerWrong n s = not (eqb (headerCheck (take n s)) (headerCheckIn n s))
 -- "the payload check the whole payload part with padding and extension"
 abbrev pub payloadWrong : ℕ → List ℕ → Bool
 payloadWrong n s = not (eqb (payloadCheck (payloadPart n s)) (payloadCheckIn n s))
+
+-- refusal 4: found is the header check that stands in the frame, worked out is that of its control part
+abbrev pub refuseHeader : ℕ → List ℕ → Read
+refuseHeader n s = refuseCheck headerCheckWrong (headerCheckIn n s) (headerCheck (take n s))
+
+-- refusal 7: found is the payload check that stands in the frame, worked out is that of its payload part
+abbrev pub refusePayload : ℕ → List ℕ → Read
+refusePayload n s = refuseCheck payloadCheckWrong (payloadCheckIn n s) (payloadCheck (payloadPart n s))
 
 -- refusal 6: "Type 0 not 18 octets; Type 1 payload above 4,095; Type 3 not 19+W to 19+W+4"
 abbrev pub lengthWrong : ℕ → List ℕ → Bool
@@ -55,14 +67,14 @@ said (suc (suc t)) s = ClosingWithLengths (closingOf s)
 unfoldable pub readBody : ℕ → List ℕ → Read
 readBody t s =
     refuse sizeWrong when lengthWrong t s otherwise
-    refuse payloadCheckWrong when checkWrong t s otherwise
+    refusePayload (control t) s when checkWrong t s otherwise
     refuse countsImpossible when countsWrong t s otherwise
     said t s
 
 -- "4; 5": a frame of type t that has its least size
 unfoldable pub readHeaded : ℕ → List ℕ → Read
 readHeaded t s =
-    refuse headerCheckWrong when headerWrong (control t) s otherwise
+    refuseHeader (control t) s when headerWrong (control t) s otherwise
     refuse stampTooHigh when ltb lastStamp (stampOf s) otherwise
     readBody t s
 

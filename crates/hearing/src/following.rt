@@ -74,7 +74,11 @@ fn follow(h: Head, number: u8, span: Span, k: usize) -> Following
         };
     }
     Following {
-        answer: Taken::Refused(Refusal { number: number }),
+        answer: Taken::Refused(Refusal {
+            number: number,
+            found: 0,
+            worked_out: 0,
+        }),
         head: h,
         span: span,
     }

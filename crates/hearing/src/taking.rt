@@ -31,7 +31,11 @@ pub fn refused(h: Head, number: u8) -> Taking
     ensures { λ r. ⌜ r ≡ keeps h number ⌝ }
 {
     Taking {
-        answer: Taken::Refused(Refusal { number: number }),
+        answer: Taken::Refused(Refusal {
+            number: number,
+            found: 0,
+            worked_out: 0,
+        }),
         head: h,
     }
 }

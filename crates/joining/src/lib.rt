@@ -37,7 +37,11 @@ fn refused(h: Head, number: u8) -> Joining
     ensures { λ r. ⌜ r ≡ record { answer = Refused (refusing number); head = h } ⌝ }
 {
     Joining {
-        answer: Joined::Refused(Refusal { number: number }),
+        answer: Joined::Refused(Refusal {
+            number: number,
+            found: 0,
+            worked_out: 0,
+        }),
         head: h,
     }
 }

@@ -1,5 +1,6 @@
 pub mod Counting
 pub mod Decimal
 pub mod Examples
+pub mod FoundAgain
 pub mod Putting
 pub mod Writing

@@ -1,5 +1,5 @@
 // Frames as numbers for C and Rust: a frame that is read as seven numbers in a lent list, and frames written from given fields and the
-// lengths of a Type 3 frame with the answer in one number, which is 256 times how many octets or lengths were written, or a refusal's number.
+// lengths of a Type 3 frame with the answer in one number, which is 256 times how many octets or lengths were written, or a refusal.
 use frame::ClosingPdu;
 use frame::Listed;
 use frame::Read;
@@ -8,6 +8,7 @@ use reader::read_frame;
 use reader::read_lengths;
 use units::Octets;
 use units::Packets;
+use units::in_one;
 use units::refusals::NO_ROOM;
 use writer::write_closing;
 use writer::write_closing_with_lengths;
@@ -24,11 +25,11 @@ ghost use Rattle.numbers_frames.specs.Reading.{SevenOut, ReadOut, ListsI
 ghost use Rattle.numbers_frames.specs.Writing.{closingGiven, Writes};
 
 // Seven numbers for a lent list.
-fn put_seven(said: &mut [u64], a: u64, b: u64, c: u64, d: u64, e: u64, f: u64, g: u64) -> u8
+fn put_seven(said: &mut [u64], a: u64, b: u64, c: u64, d: u64, e: u64, f: u64, g: u64) -> u64
     ensures { λ r. ⌜ SevenOut (a ∷ b ∷ c ∷ d ∷ e ∷ f ∷ g ∷ []) (now (said .entry)) r (now (said .exit)) ⌝ }
 {
     if said.len() < 7 {
-        return NO_ROOM;
+        return NO_ROOM as u64;
     }
     said[0] = a;
     said[1] = b;
@@ -41,13 +42,13 @@ fn put_seven(said: &mut [u64], a: u64, b: u64, c: u64, d: u64, e: u64, f: u64, g
 }
 
 // Reads a frame. Answers 0 and writes seven numbers: one more than the PDU type, stamp, packet number, elapsed octets, total
-// packets, total octets, payload length. Or answers the refusal's number and writes nothing.
-pub fn read_numbers(frame: &[u8], said: &mut [u64]) -> u8
+// packets, total octets, payload length. Or answers the refusal, with both checks of 4 and 7, and writes nothing.
+pub fn read_numbers(frame: &[u8], said: &mut [u64]) -> u64
     ensures { λ r. ⌜ ReadOut (readPaper (readFrame (now (frame .entry)))) (now (said .entry)) r (now (said .exit)) ⌝ }
 {
     let read = read_frame(frame);
     match read {
-        Read::Refused(r) => r.number,
+        Read::Refused(r) => in_one(r),
         Read::Data(d) => put_seven(
             said,
             2,
@@ -87,7 +88,7 @@ fn written_in_one(w: Written) -> u64
     ensures { λ r. ⌜ r ≡ inOne (writtenPaper w) ⌝ }
 {
     match w {
-        Written::Refused(r) => r.number as u64,
+        Written::Refused(r) => in_one(r),
         Written::Done(n) => 256 * (n as u64),
     }
 }
@@ -98,7 +99,7 @@ pub fn lengths_in_one(frame: &[u8], lengths: &mut [u16]) -> u64
 {
     let listed = read_lengths(frame, lengths);
     match listed {
-        Listed::Refused(r) => r.number as u64,
+        Listed::Refused(r) => in_one(r),
         Listed::Lengths(n) => 256 * (n.0 as u64),
     }
 }

@@ -1,9 +1,10 @@
 -- A join as C and Rust get it: the answer in one number. Assumes nothing.
-use Prim.Native.Nat.{ℕ, _+_, _*_}
+use Prim.Native.Nat.{ℕ}
 use mathlib.Core.Path.{_≡_}
 use mathlib.Core.List.{List}
 use lib.Dec.{ltb}
 use lib.ListN.{length}
+use Rattle.units.specs.Answers.{withValue}
 use Rattle.units.specs.Refusals.{capacitiesDiffer}
 use Rattle.fields.specs.Choice.{_when_otherwise_}
 use Rattle.fields.specs.Runs.{front}
@@ -16,7 +17,7 @@ use Rattle.numbers_head.specs.Heads.{numbersOf}
 
 -- 0, or the refusal's number; with 11, the number that it names is added 256 times
 abbrev pub joinNumber : Joined → ℕ
-joinNumber t = joinedPaper t .number + 256 * joinedPaper t .named
+joinNumber t = withValue (joinedPaper t .number) (joinedPaper t .named)
 
 -- the list of the left's head after: its numbers in front; or, refused, what it held
 abbrev pub joinedHeadAfter : Joined → List ℕ → Head → List ℕ

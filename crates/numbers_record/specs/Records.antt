@@ -11,8 +11,8 @@ use Rattle.fields.specs.Runs.{front}
 use Rattle.reception.specs.declared.Head.{Head}
 use Rattle.reception.specs.declared.Taken.{Taken}
 use Rattle.reception.specs.declared.Taken.the-variants.{Done, Refused}
-use Rattle.reception.specs.Hearing.{Kept, Outcome, takenPaper}
-use Rattle.reception.specs.Several.{numbersAfter}
+use Rattle.reception.specs.Hearing.{Kept, Outcome}
+use Rattle.reception.specs.Several.{answersAfter}
 use Rattle.numbers_head.specs.Heads.{numbersOf}
 
 -- the list of a head after an answer: the head's numbers in front; or, refused, what it held
@@ -20,14 +20,15 @@ abbrev pub headAfter : Taken → List ℕ → Head → List ℕ
 headAfter Done old h = front old (numbersOf h)
 headAfter (Refused r) old h = old
 
--- the promise about a record k whose head stands in the list old: 14 where that has fewer than six numbers, otherwise what t says
-pub record Keeps (old : List ℕ) (k : Kept) (t : Outcome) (r : ℕ) (new marks elapsed sizes : List ℕ) : Type 0 where
-  pub says : r ≡ (capacitiesDiffer when ltb (length old) 6 otherwise takenPaper (t .answer) .number)
+-- the promise about a record k whose head stands in the list old, where an answer is told so: 14 where the list has fewer than six numbers,
+-- otherwise what t says
+pub record Keeps (told : Taken → ℕ) (old : List ℕ) (k : Kept) (t : Outcome) (r : ℕ) (new marks elapsed sizes : List ℕ) : Type 0 where
+  pub says : r ≡ (capacitiesDiffer when ltb (length old) 6 otherwise told (t .answer))
   pub leaves-head : new ≡ (old when ltb (length old) 6 otherwise headAfter (t .answer) old (t .kept .head))
   pub leaves-marks : marks ≡ (k .marks when ltb (length old) 6 otherwise t .kept .marks)
   pub leaves-elapsed : elapsed ≡ (k .elapsed when ltb (length old) 6 otherwise t .kept .elapsed)
   pub leaves-sizes : sizes ≡ (k .sizes when ltb (length old) 6 otherwise t .kept .sizes)
 
--- and about the numbers of many answers ts, in a lent list
-pub record Numbers (old : List ℕ) (t : Outcome) (ts : List Taken) (numbers new : List ℕ) : Type 0 where
-  pub leaves-numbers : new ≡ (numbers when ltb (length old) 6 otherwise numbersAfter (t .answer) ts numbers)
+-- and about many answers ts, in a lent list
+pub record Answers (old : List ℕ) (t : Outcome) (ts : List Taken) (answers new : List ℕ) : Type 0 where
+  pub leaves-answers : new ≡ (answers when ltb (length old) 6 otherwise answersAfter (t .answer) ts answers)

@@ -6,12 +6,13 @@ use numbers_head::head_of;
 use numbers_head::put_head;
 use reception::Taken;
 use several::hear_sequence;
+use units::in_one;
 use units::refusals::CAPACITIES_DIFFER;
 ghost use lib.ListN.{length};
 ghost use Rattle.reception.specs.Hearing.{keptIn, unused, emptyKept, freshRecord, hearFrame};
-ghost use Rattle.reception.specs.Several.{answers, framesIn, hearSequence};
+ghost use Rattle.reception.specs.Several.{numberOf, answerOf, answersTo, framesIn, hearSequence};
 ghost use Rattle.numbers_head.specs.Heads.{headOf};
-ghost use Rattle.numbers_record.specs.Records.{Keeps, Numbers};
+ghost use Rattle.numbers_record.specs.Records.{Keeps, Answers};
 
 // Makes an empty record of a key. Answers 0, or a refusal's number.
 pub fn fresh_record(
@@ -23,7 +24,7 @@ pub fn fresh_record(
     elapsed: &mut [u32],
     sizes: &mut [u16],
 ) -> u8
-    ensures { λ r. ⌜ Keeps (now (head .entry))
+    ensures { λ r. ⌜ Keeps numberOf (now (head .entry))
         (unused (now (marks .entry)) (now (elapsed .entry)) (now (sizes .entry)))
         (freshRecord bearer period stamp (now (marks .entry)) (now (elapsed .entry)) (now (sizes .entry)))
         r (now (head .exit)) (now (marks .exit)) (now (elapsed .exit)) (now (sizes .exit)) ⌝ }
@@ -43,7 +44,7 @@ pub fn fresh_record(
     }
 }
 
-// Takes a frame into a record. Answers 0, or a refusal's number.
+// Takes a frame into a record. Answers 0, or a refusal, with both checks of 4 and 7.
 pub fn hear_frame(
     head: &mut [u64],
     marks: &mut [u8],
@@ -52,21 +53,21 @@ pub fn hear_frame(
     bearer: u32,
     period: u32,
     frame: &[u8],
-) -> u8
-    ensures { λ r. ⌜ Keeps (now (head .entry))
+) -> u64
+    ensures { λ r. ⌜ Keeps answerOf (now (head .entry))
         (keptIn (headOf (now (head .entry))) (now (marks .entry)) (now (elapsed .entry)) (now (sizes .entry)))
         (hearFrame (keptIn (headOf (now (head .entry))) (now (marks .entry)) (now (elapsed .entry)) (now (sizes .entry))) bearer period (now (frame .entry)))
         r (now (head .exit)) (now (marks .exit)) (now (elapsed .exit)) (now (sizes .exit)) ⌝ }
 {
     if head.len() < 6 {
-        return CAPACITIES_DIFFER;
+        return CAPACITIES_DIFFER as u64;
     }
     let h = head_of(head);
     let t = hear(h, marks, elapsed, sizes, bearer, period, frame);
     let after = t.head;
     let answer = t.answer;
     match answer {
-        Taken::Refused(r) => r.number,
+        Taken::Refused(r) => in_one(r),
         Taken::Done => {
             put_head(head, after);
             0
@@ -86,18 +87,18 @@ pub fn hear_all(
     sizes: &mut [u16],
     octets: &[u8],
     ends: &[u32],
-    numbers: &mut [u8],
+    answers: &mut [u64],
 ) -> u8
-    ensures { λ r. ⌜ Keeps (now (head .entry))
+    ensures { λ r. ⌜ Keeps numberOf (now (head .entry))
         (unused (now (marks .entry)) (now (elapsed .entry)) (now (sizes .entry)))
         (hearSequence bearer period stamp (unused (now (marks .entry)) (now (elapsed .entry)) (now (sizes .entry)))
-        (framesIn (now (octets .entry)) 0 (now (ends .entry))) (length (now (numbers .entry))))
+        (framesIn (now (octets .entry)) 0 (now (ends .entry))) (length (now (answers .entry))))
         r (now (head .exit)) (now (marks .exit)) (now (elapsed .exit)) (now (sizes .exit)) ⌝ }
-    ensures { λ r. ⌜ Numbers (now (head .entry))
+    ensures { λ r. ⌜ Answers (now (head .entry))
         (hearSequence bearer period stamp (unused (now (marks .entry)) (now (elapsed .entry)) (now (sizes .entry)))
-        (framesIn (now (octets .entry)) 0 (now (ends .entry))) (length (now (numbers .entry))))
-        (answers (emptyKept bearer period stamp (length (now (marks .entry)))) bearer period (framesIn (now (octets .entry)) 0 (now (ends .entry))))
-        (now (numbers .entry)) (now (numbers .exit)) ⌝ }
+        (framesIn (now (octets .entry)) 0 (now (ends .entry))) (length (now (answers .entry))))
+        (answersTo (emptyKept bearer period stamp (length (now (marks .entry)))) bearer period (framesIn (now (octets .entry)) 0 (now (ends .entry))))
+        (now (answers .entry)) (now (answers .exit)) ⌝ }
 {
     if head.len() < 6 {
         return CAPACITIES_DIFFER;
@@ -111,7 +112,7 @@ pub fn hear_all(
         sizes,
         octets,
         ends,
-        numbers,
+        answers,
     );
     let after = t.head;
     let answer = t.answer;

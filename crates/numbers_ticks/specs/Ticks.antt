@@ -1,13 +1,14 @@
 -- The clock as C and Rust get it: an answer with a value in one number. Assumes nothing.
-use Prim.Native.Nat.{ℕ, _+_, _*_}
+use Prim.Native.Nat.{ℕ}
+use Rattle.units.specs.Answers.{withValue}
 use Rattle.clock.specs.declared.Moment.{Moment}
 use Rattle.clock.specs.declared.DueTime.{DueTime}
 use Rattle.clock.specs.Paper.{momentPaper, duePaper}
 
 -- the refusal's number, and 256 times the stamp; one of the two is zero
 unfoldable pub momentNumber : Moment → ℕ
-momentNumber m = momentPaper m .number + 256 * momentPaper m .stamp
+momentNumber m = withValue (momentPaper m .number) (momentPaper m .stamp)
 
 -- the refusal's number, and 256 times the tick
 unfoldable pub dueNumber : DueTime → ℕ
-dueNumber d = duePaper d .number + 256 * duePaper d .tick
+dueNumber d = withValue (duePaper d .number) (duePaper d .tick)

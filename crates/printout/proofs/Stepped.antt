@@ -107,7 +107,7 @@ framed-step g marks elapsed sizes body t marks′ elapsed′ sizes′ old at at�
 pub told-nothing : (place at : ℕ) (t : Taken) (old : List ℕ) → t ≡ Done → Puts (answerText place t) old at at old
 told-nothing place at t old e = rw e (puts-none old at)
 
-pub told-refused : (place at r : ℕ) (t : Taken) (x : Refusal) (old new : List ℕ) → t ≡ Refused x → Puts (refusedLine place (x .number)) old at r new
+pub told-refused : (place at r : ℕ) (t : Taken) (x : Refusal) (old new : List ℕ) → t ≡ Refused x → Puts (refusedLine place x) old at r new
     → Puts (answerText place t) old at r new
 told-refused place at r t x old new e p = rw e p
 

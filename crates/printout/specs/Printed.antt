@@ -52,10 +52,10 @@ after b size k = record { begun = true; kept = k; place = counted (b .place + 1)
 abbrev pub badStep : Between → Step
 badStep b = record { text = badLine (b .offset); stops = true; next = b }
 
--- "a refused one prints "refused", its place among all items from 1, its number"
+-- "a refused one prints "refused", its place among all items from 1, its number", and both checks of 4 and 7
 abbrev pub answerText : ℕ → Taken → List ℕ
 answerText place Done = []
-answerText place (Refused r) = refusedLine place (r .number)
+answerText place (Refused r) = refusedLine place r
 
 -- a frame heard into the record that was begun, of the record's own bearer and period
 abbrev pub frameStep : Between → ℕ → Outcome → Step

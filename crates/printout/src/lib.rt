@@ -115,7 +115,7 @@ fn put_answer(out: &mut [u8], at: usize, place: u64, t: Taken) -> usize
 {
     match t {
         Taken::Done => at,
-        Taken::Refused(r) => put_refused(out, at, place, r.number),
+        Taken::Refused(r) => put_refused(out, at, place, r),
     }
 }
 

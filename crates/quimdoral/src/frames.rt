@@ -7,9 +7,9 @@ ghost use Rattle.numbers_frames.specs.Reading.{ReadOut, ListsInOne};
 ghost use Rattle.numbers_frames.specs.Writing.{closingGiven, Writes};
 
 // Reads a frame. Answers 0 and writes seven numbers: one more than the PDU type, stamp, packet number, elapsed octets, total
-// packets, total octets, payload length. Or answers the refusal's number and writes nothing.
+// packets, total octets, payload length. Or answers the refusal, with both checks of 4 and 7, and writes nothing.
 #[no_mangle]
-pub extern "C" fn quimdoral_read_frame(frame: &[u8], said: &mut [u64]) -> u8
+pub extern "C" fn quimdoral_read_frame(frame: &[u8], said: &mut [u64]) -> u64
     ensures { λ r. ⌜ ReadOut (readPaper (readFrame (now (frame .entry)))) (now (said .entry)) r (now (said .exit)) ⌝ }
 {
     numbers_frames::read_numbers(frame, said)

@@ -1,9 +1,9 @@
 // Records: an empty one, a frame heard, many frames heard.
 ghost use lib.ListN.{length};
 ghost use Rattle.reception.specs.Hearing.{keptIn, unused, emptyKept, freshRecord, hearFrame};
-ghost use Rattle.reception.specs.Several.{answers, framesIn, hearSequence};
+ghost use Rattle.reception.specs.Several.{numberOf, answerOf, answersTo, framesIn, hearSequence};
 ghost use Rattle.numbers_head.specs.Heads.{headOf};
-ghost use Rattle.numbers_record.specs.Records.{Keeps, Numbers};
+ghost use Rattle.numbers_record.specs.Records.{Keeps, Answers};
 
 // Makes an empty record of a key. Answers 0, or a refusal's number.
 #[no_mangle]
@@ -16,7 +16,7 @@ pub extern "C" fn quimdoral_fresh(
     elapsed: &mut [u32],
     sizes: &mut [u16],
 ) -> u8
-    ensures { λ r. ⌜ Keeps (now (head .entry))
+    ensures { λ r. ⌜ Keeps numberOf (now (head .entry))
         (unused (now (marks .entry)) (now (elapsed .entry)) (now (sizes .entry)))
         (freshRecord bearer period stamp (now (marks .entry)) (now (elapsed .entry)) (now (sizes .entry)))
         r (now (head .exit)) (now (marks .exit)) (now (elapsed .exit)) (now (sizes .exit)) ⌝ }
@@ -24,7 +24,7 @@ pub extern "C" fn quimdoral_fresh(
     numbers_record::fresh_record(bearer, period, stamp, head, marks, elapsed, sizes)
 }
 
-// Takes a frame into a record. Answers 0, or a refusal's number.
+// Takes a frame into a record. Answers 0, or a refusal, with both checks of 4 and 7.
 #[no_mangle]
 pub extern "C" fn quimdoral_hear(
     head: &mut [u64],
@@ -34,8 +34,8 @@ pub extern "C" fn quimdoral_hear(
     bearer: u32,
     period: u32,
     frame: &[u8],
-) -> u8
-    ensures { λ r. ⌜ Keeps (now (head .entry))
+) -> u64
+    ensures { λ r. ⌜ Keeps answerOf (now (head .entry))
         (keptIn (headOf (now (head .entry))) (now (marks .entry)) (now (elapsed .entry)) (now (sizes .entry)))
         (hearFrame (keptIn (headOf (now (head .entry))) (now (marks .entry)) (now (elapsed .entry)) (now (sizes .entry))) bearer period (now (frame .entry)))
         r (now (head .exit)) (now (marks .exit)) (now (elapsed .exit)) (now (sizes .exit)) ⌝ }
@@ -56,18 +56,18 @@ pub extern "C" fn quimdoral_hear_all(
     sizes: &mut [u16],
     octets: &[u8],
     ends: &[u32],
-    numbers: &mut [u8],
+    answers: &mut [u64],
 ) -> u8
-    ensures { λ r. ⌜ Keeps (now (head .entry))
+    ensures { λ r. ⌜ Keeps numberOf (now (head .entry))
         (unused (now (marks .entry)) (now (elapsed .entry)) (now (sizes .entry)))
         (hearSequence bearer period stamp (unused (now (marks .entry)) (now (elapsed .entry)) (now (sizes .entry)))
-        (framesIn (now (octets .entry)) 0 (now (ends .entry))) (length (now (numbers .entry))))
+        (framesIn (now (octets .entry)) 0 (now (ends .entry))) (length (now (answers .entry))))
         r (now (head .exit)) (now (marks .exit)) (now (elapsed .exit)) (now (sizes .exit)) ⌝ }
-    ensures { λ r. ⌜ Numbers (now (head .entry))
+    ensures { λ r. ⌜ Answers (now (head .entry))
         (hearSequence bearer period stamp (unused (now (marks .entry)) (now (elapsed .entry)) (now (sizes .entry)))
-        (framesIn (now (octets .entry)) 0 (now (ends .entry))) (length (now (numbers .entry))))
-        (answers (emptyKept bearer period stamp (length (now (marks .entry)))) bearer period (framesIn (now (octets .entry)) 0 (now (ends .entry))))
-        (now (numbers .entry)) (now (numbers .exit)) ⌝ }
+        (framesIn (now (octets .entry)) 0 (now (ends .entry))) (length (now (answers .entry))))
+        (answersTo (emptyKept bearer period stamp (length (now (marks .entry)))) bearer period (framesIn (now (octets .entry)) 0 (now (ends .entry))))
+        (now (answers .entry)) (now (answers .exit)) ⌝ }
 {
     numbers_record::hear_all(
         bearer,
@@ -79,6 +79,6 @@ pub extern "C" fn quimdoral_hear_all(
         sizes,
         octets,
         ends,
-        numbers,
+        answers,
     )
 }

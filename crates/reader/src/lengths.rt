@@ -76,7 +76,11 @@ pub fn read_lengths(frame: &[u8], out: &mut [u16]) -> Listed
             let number = c.number;
             let n = number.0 as usize;
             if out.len() < n {
-                return Listed::Refused(Refusal { number: NO_ROOM });
+                return Listed::Refused(Refusal {
+                    number: NO_ROOM,
+                    found: 0,
+                    worked_out: 0,
+                });
             }
             list(frame, n, out);
             Listed::Lengths(number)

@@ -10,12 +10,13 @@ use frame::sizes::LENGTHS_HEAD;
 use frame::sizes::LONG_CONTROL;
 use frame::sizes::SHORT_CONTROL;
 pub use lengths::read_lengths;
+use parts::Compared;
 use parts::closing_of;
 use parts::control_of;
 use parts::data_of;
-use parts::header_wrong;
+use parts::header_compared;
 use parts::least_of;
-use parts::payload_wrong;
+use parts::payload_compared;
 use units::Refusal;
 use units::limits::LAST_STAMP;
 use units::limits::MOST_PAYLOAD;
@@ -33,7 +34,18 @@ ghost use lib.ListN.{length};
 ghost use Rattle.frame.specs.Layout.{least};
 ghost use Rattle.frame.specs.Paper.{readPaper};
 ghost use Rattle.frame.specs.Sizes.{closingSize, dataHead, lengthsHead};
-ghost use Rattle.frame.specs.Reading.{readBody, readHeaded, readFrame};
+ghost use Rattle.frame.specs.Reading.{refuseCheck, readBody, readHeaded, readFrame};
+
+// A wrong check is refused with what was found and what was worked out.
+fn check_refused(number: u8, t: Compared) -> Read
+    ensures { λ r. ⌜ r ≡ refuseCheck number (t .found) (t .«worked_out») ⌝ }
+{
+    Read::Refused(Refusal {
+        number: number,
+        found: t.found,
+        worked_out: t.worked_out,
+    })
+}
 
 // Type 0.
 fn read_closing(frame: &[u8]) -> Read
@@ -41,12 +53,18 @@ fn read_closing(frame: &[u8]) -> Read
     ensures { λ r. ⌜ r ≡ readBody 0 (now (frame .entry)) ⌝ }
 {
     if frame.len() != CLOSING_SIZE {
-        return Read::Refused(Refusal { number: SIZE_WRONG });
+        return Read::Refused(Refusal {
+            number: SIZE_WRONG,
+            found: 0,
+            worked_out: 0,
+        });
     }
     let c = closing_of(frame);
     if counts::closing_wrong(c) {
         return Read::Refused(Refusal {
             number: COUNTS_IMPOSSIBLE,
+            found: 0,
+            worked_out: 0,
         });
     }
     Read::Closing(c)
@@ -59,17 +77,22 @@ fn read_data(frame: &[u8]) -> Read
 {
     let payload = &frame[DATA_HEAD..];
     if MOST_PAYLOAD < payload.len() as u64 {
-        return Read::Refused(Refusal { number: SIZE_WRONG });
-    }
-    if payload_wrong(frame, SHORT_CONTROL, payload) {
         return Read::Refused(Refusal {
-            number: PAYLOAD_CHECK_WRONG,
+            number: SIZE_WRONG,
+            found: 0,
+            worked_out: 0,
         });
+    }
+    let t = payload_compared(frame, SHORT_CONTROL, payload);
+    if t.worked_out != t.found {
+        return check_refused(PAYLOAD_CHECK_WRONG, t);
     }
     let d = data_of(frame, payload);
     if counts::data_wrong(d.number, d.elapsed) {
         return Read::Refused(Refusal {
             number: COUNTS_IMPOSSIBLE,
+            found: 0,
+            worked_out: 0,
         });
     }
     Read::Data(d)
@@ -83,19 +106,28 @@ fn read_with_lengths(frame: &[u8]) -> Read
     let c = closing_of(frame);
     let w = (3 * (c.number.0 as usize) + 1) / 2;
     if frame.len() < LENGTHS_HEAD + w {
-        return Read::Refused(Refusal { number: SIZE_WRONG });
+        return Read::Refused(Refusal {
+            number: SIZE_WRONG,
+            found: 0,
+            worked_out: 0,
+        });
     }
     if LENGTHS_HEAD + w + 4 < frame.len() {
-        return Read::Refused(Refusal { number: SIZE_WRONG });
-    }
-    if payload_wrong(frame, LONG_CONTROL, &frame[LENGTHS_HEAD..]) {
         return Read::Refused(Refusal {
-            number: PAYLOAD_CHECK_WRONG,
+            number: SIZE_WRONG,
+            found: 0,
+            worked_out: 0,
         });
+    }
+    let t = payload_compared(frame, LONG_CONTROL, &frame[LENGTHS_HEAD..]);
+    if t.worked_out != t.found {
+        return check_refused(PAYLOAD_CHECK_WRONG, t);
     }
     if lengths::lengths_wrong(frame, c) {
         return Read::Refused(Refusal {
             number: COUNTS_IMPOSSIBLE,
+            found: 0,
+            worked_out: 0,
         });
     }
     Read::ClosingWithLengths(c)
@@ -120,14 +152,15 @@ fn read_headed(frame: &[u8], kind: u8) -> Read
     requires { ⌜ least kind ≤ length (now frame) ⌝ }
     ensures { λ r. ⌜ r ≡ readHeaded kind (now (frame .entry)) ⌝ }
 {
-    if header_wrong(frame, control_of(kind)) {
-        return Read::Refused(Refusal {
-            number: HEADER_CHECK_WRONG,
-        });
+    let t = header_compared(frame, control_of(kind));
+    if t.worked_out != t.found {
+        return check_refused(HEADER_CHECK_WRONG, t);
     }
     if LAST_STAMP < fields::field(frame, 1, 2) {
         return Read::Refused(Refusal {
             number: STAMP_TOO_HIGH,
+            found: 0,
+            worked_out: 0,
         });
     }
     read_body(frame, kind)
@@ -138,19 +171,33 @@ pub fn read_frame(frame: &[u8]) -> Read
     ensures { λ r. ⌜ readPaper r ≡ readPaper (readFrame (now (frame .entry))) ⌝ }
 {
     if frame.len() == 0 {
-        return Read::Refused(Refusal { number: TOO_SHORT });
+        return Read::Refused(Refusal {
+            number: TOO_SHORT,
+            found: 0,
+            worked_out: 0,
+        });
     }
     let kind = frame[0] >> 4;
     if kind == 2 {
-        return Read::Refused(Refusal { number: TYPE_TWO });
+        return Read::Refused(Refusal {
+            number: TYPE_TWO,
+            found: 0,
+            worked_out: 0,
+        });
     }
     if 3 < kind {
         return Read::Refused(Refusal {
             number: TYPE_UNKNOWN,
+            found: 0,
+            worked_out: 0,
         });
     }
     if frame.len() < least_of(kind) {
-        return Read::Refused(Refusal { number: TOO_SHORT });
+        return Read::Refused(Refusal {
+            number: TOO_SHORT,
+            found: 0,
+            worked_out: 0,
+        });
     }
     read_headed(frame, kind)
 }

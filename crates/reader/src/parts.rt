@@ -10,10 +10,10 @@ use units::Octets;
 use units::Packets;
 ghost use mathlib.Core.Path.{_≡_};
 ghost use Prim.Native.Nat.{_+_, _≤_, _<_};
-ghost use lib.ListN.{length, drop};
-ghost use Rattle.frame.specs.Layout.{control, least, payloadOf, dataOf, closingOf};
+ghost use lib.ListN.{length, take, drop};
+ghost use Rattle.checks.specs.Check.{headerCheck, payloadCheck};
+ghost use Rattle.frame.specs.Layout.{control, least, headerCheckIn, payloadCheckIn, payloadPart, payloadOf, dataOf, closingOf};
 ghost use Rattle.frame.specs.Sizes.{dataHead, longControl};
-ghost use Rattle.frame.specs.Reading.{headerWrong, payloadWrong};
 
 pub fn control_of(kind: u8) -> usize
     ensures { λ r. ⌜ r ≡ control kind ⌝ }
@@ -34,21 +34,34 @@ pub fn least_of(kind: u8) -> usize
     if kind == 1 { DATA_HEAD } else { LENGTHS_HEAD }
 }
 
+// A check that stands in a frame, and what it should be.
+pub struct Compared {
+    pub found: u16,
+    pub worked_out: u16,
+}
+
 // The header check stands in the upper six bits behind the control part.
-pub fn header_wrong(frame: &[u8], n: usize) -> bool
+pub fn header_compared(frame: &[u8], n: usize) -> Compared
     requires { ⌜ n < length (now frame) ⌝ }
-    ensures { λ r. ⌜ r ≡ headerWrong n (now (frame .entry)) ⌝ }
+    ensures { λ r. ⌜ (r .found ≡ headerCheckIn n (now (frame .entry))) × (r .«worked_out» ≡ headerCheck (take n (now (frame .entry)))) ⌝ }
 {
-    checks::header_check(&frame[..n]) != frame[n] >> 2
+    let worked_out = checks::header_check(&frame[..n]) as u16;
+    Compared {
+        found: (frame[n] >> 2) as u16,
+        worked_out: worked_out,
+    }
 }
 
 // The payload check is the lower ten bits of the two octets behind the control part.
-pub fn payload_wrong(frame: &[u8], n: usize, part: &[u8]) -> bool
+pub fn payload_compared(frame: &[u8], n: usize, part: &[u8]) -> Compared
     requires { ⌜ (n + 2 ≤ length (now frame)) × (now part ≡ drop (n + 2) (now frame)) ⌝ }
-    ensures { λ r. ⌜ r ≡ payloadWrong n (now (frame .entry)) ⌝ }
+    ensures { λ r. ⌜ (r .found ≡ payloadCheckIn n (now (frame .entry))) × (r .«worked_out» ≡ payloadCheck (payloadPart n (now (frame .entry)))) ⌝ }
 {
     let given = (((frame[n] & 3) as u16) << 8) | (frame[n + 1] as u16);
-    checks::payload_check(part) != given
+    Compared {
+        found: given,
+        worked_out: checks::payload_check(part),
+    }
 }
 
 // The length that is recorded is that of the payload which is handed on.

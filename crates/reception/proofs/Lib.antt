@@ -8,6 +8,7 @@ pub mod ExplainedTogether
 pub mod GapOctets
 pub mod GapsAreUnheard
 pub mod HeardAgain
+pub mod HeardTold
 pub mod HearingContradicts
 pub mod HearingUndamaged
 pub mod JoinJudged

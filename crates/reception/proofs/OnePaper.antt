@@ -2,6 +2,7 @@
 use Prim.Native.Nat.{ℕ, zero, suc}
 use mathlib.Core.Path.{_≡_, refl, sym, ap, _∙_}
 use mathlib.Core.List.{List}
+use Rattle.units.specs.Refusals.{refusingCheck}
 use Rattle.frame.specs.Paper.{CountPaper}
 use Rattle.reception.specs.declared.Taken.{Taken}
 use Rattle.reception.specs.declared.Taken.the-variants.{Done as TakenDone, Refused as NotTaken}
@@ -15,7 +16,7 @@ use Rattle.reception.specs.Reporting.{ReportPaper, reportedPaper, Report
 
 -- the answer that a paper is of
 takenFrom : ℕ → CountPaper → Taken
-takenFrom zero p = NotTaken (record { number = p .number })
+takenFrom zero p = NotTaken (refusingCheck (p .number) (p .found) (p .worked))
 takenFrom (suc k) p = TakenDone
 
 taken-from : (a : Taken) → takenFrom (takenPaper a .accepted) (takenPaper a) ≡ a
@@ -27,7 +28,7 @@ pub taken-known : (a b : Taken) → takenPaper a ≡ takenPaper b → a ≡ b
 taken-known a b e = sym (taken-from a) ∙ ap (λ (p : CountPaper). takenFrom (p .accepted) p) e ∙ taken-from b
 
 reportedFrom : ℕ → ReportPaper → Reported
-reportedFrom zero p = NotReported (record { number = p .number })
+reportedFrom zero p = NotReported (refusingCheck (p .number) (p .found) (p .worked))
 reportedFrom (suc k) p =
     ReportedDone
     (record {
@@ -51,7 +52,7 @@ reported-known a b e = sym (reported-from a) ∙ ap (λ (p : ReportPaper). repor
 joinedFrom : ℕ → ℕ → JoinPaper → Joined
 joinedFrom (suc k) m p = JoinedDone
 joinedFrom zero (suc m) p = Contradicted (p .named)
-joinedFrom zero zero p = NotJoined (record { number = p .number })
+joinedFrom zero zero p = NotJoined (refusingCheck (p .number) (p .found) (p .worked))
 
 joined-from : (a : Joined) → joinedFrom (joinedPaper a .accepted) (joinedPaper a .names) (joinedPaper a) ≡ a
 unfolding joinedFrom joinedPaper

@@ -140,8 +140,8 @@ takenOf n = Done when eqb n 0 otherwise Refused (refusing n)
 
 -- document 01's number for what was taken, and whether it was accepted
 unfoldable pub takenPaper : Taken → CountPaper
-takenPaper Done = record { number = 0; accepted = 1; count = 0 }
-takenPaper (Refused r) = record { number = r .number; accepted = 0; count = 0 }
+takenPaper Done = record { number = 0; found = 0; worked = 0; accepted = 1; count = 0 }
+takenPaper (Refused r) = record { number = r .number; found = r .found; worked = r .«worked_out»; accepted = 0; count = 0 }
 
 -- the promise: answer, head and every place of the three lists are as t says
 pub record Takes (t : Outcome) (r : Taking) (marks elapsed sizes : List ℕ) : Type 0 where

@@ -125,14 +125,16 @@ joinRecords a b =
 -- document 01's number, whether it was accepted, whether it names a packet number or the closing, and which
 pub record JoinPaper : Type 0 where
   pub number : ℕ
+  pub found : ℕ
+  pub worked : ℕ
   pub accepted : ℕ
   pub names : ℕ
   pub named : ℕ
 
 unfoldable pub joinedPaper : Joined → JoinPaper
-joinedPaper Done = record { number = 0; accepted = 1; names = 0; named = 0 }
-joinedPaper (Contradicted n) = record { number = contradiction; accepted = 0; names = 1; named = n }
-joinedPaper (Refused r) = record { number = r .number; accepted = 0; names = 0; named = 0 }
+joinedPaper Done = record { number = 0; found = 0; worked = 0; accepted = 1; names = 0; named = 0 }
+joinedPaper (Contradicted n) = record { number = contradiction; found = 0; worked = 0; accepted = 0; names = 1; named = n }
+joinedPaper (Refused r) = record { number = r .number; found = r .found; worked = r .«worked_out»; accepted = 0; names = 0; named = 0 }
 
 -- the promise: answer, head and every place of the left's lists are as t says
 pub record Joins (t : JoinOutcome) (r : Joining) (marks elapsed sizes : List ℕ) : Type 0 where

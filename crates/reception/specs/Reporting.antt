@@ -88,6 +88,8 @@ reportRecord k room =
 -- document 01's number and values: "a refusal returns its number and zeros elsewhere"
 pub record ReportPaper : Type 0 where
   pub number : ℕ
+  pub found : ℕ
+  pub worked : ℕ
   pub accepted : ℕ
   pub sent : ℕ
   pub sentOctets : ℕ
@@ -102,6 +104,8 @@ unfoldable pub reportedPaper : Reported → ReportPaper
 reportedPaper (Done r) =
     record {
       number = 0;
+      found = 0;
+      worked = 0;
       accepted = 1;
       sent = r .sent .0;
       sentOctets = r .«sent_octets» .0;
@@ -114,6 +118,8 @@ reportedPaper (Done r) =
 reportedPaper (Refused r) =
     record {
       number = r .number;
+      found = r .found;
+      worked = r .«worked_out»;
       accepted = 0;
       sent = 0;
       sentOctets = 0;

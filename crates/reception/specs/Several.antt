@@ -4,6 +4,7 @@ use mathlib.Core.Path.{_≡_}
 use mathlib.Core.List.{List, [], _∷_, map}
 use lib.Dec.{ltb}
 use lib.ListN.{length, take, drop}
+use Rattle.units.specs.Answers.{withValue, checksValue}
 use Rattle.units.specs.Limits.{lastStamp}
 use Rattle.units.specs.Refusals.{stampTooHigh, noRoom, capacitiesDiffer}
 use Rattle.fields.specs.Choice.{_when_otherwise_}
@@ -18,9 +19,9 @@ hearAll k bearer period [] = k
 hearAll k bearer period (f ∷ fs) = hearAll (hearFrame k bearer period f .kept) bearer period fs
 
 -- and the answer to each
-unfoldable pub answers : Kept → ℕ → ℕ → List (List ℕ) → List Taken
-answers k bearer period [] = []
-answers k bearer period (f ∷ fs) = hearFrame k bearer period f .answer ∷ answers (hearFrame k bearer period f .kept) bearer period fs
+unfoldable pub answersTo : Kept → ℕ → ℕ → List (List ℕ) → List Taken
+answersTo k bearer period [] = []
+answersTo k bearer period (f ∷ fs) = hearFrame k bearer period f .answer ∷ answersTo (hearFrame k bearer period f .kept) bearer period fs
 
 -- the refusal's number, or 0
 abbrev pub numberOf : Taken → ℕ
@@ -39,7 +40,11 @@ hearSequence bearer period stamp old frames room =
     refuses old noRoom when ltb room (length frames) otherwise
     takes (hearAll (emptyKept bearer period stamp (length (old .marks))) bearer period frames)
 
--- the list of numbers after: one for each frame in front; or, refused, what it held
-abbrev pub numbersAfter : Taken → List Taken → List ℕ → List ℕ
-numbersAfter Done ts old = front old (map numberOf ts)
-numbersAfter (Refused r) ts old = old
+-- an answer in one number: 0, or the refusal's with both checks of 4 and 7
+abbrev pub answerOf : Taken → ℕ
+answerOf t = withValue (numberOf t) (checksValue (takenPaper t .found) (takenPaper t .worked))
+
+-- the list of answers after: one for each frame in front; or, refused, what it held
+abbrev pub answersAfter : Taken → List Taken → List ℕ → List ℕ
+answersAfter Done ts old = front old (map answerOf ts)
+answersAfter (Refused r) ts old = old

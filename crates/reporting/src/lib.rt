@@ -30,7 +30,11 @@ ghost use Rattle.reporting.specs.Writing.{reportWith};
 fn refused(number: u8) -> Reported
     ensures { λ r. ⌜ r ≡ Refused (refusing number) ⌝ }
 {
-    Reported::Refused(Refusal { number: number })
+    Reported::Refused(Refusal {
+        number: number,
+        found: 0,
+        worked_out: 0,
+    })
 }
 
 // The lower of two lengths.

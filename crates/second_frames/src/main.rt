@@ -41,7 +41,7 @@ fn tell(frame: &[u8], lengths: &mut [u16], text: &mut [u8]) -> usize
             let end = put_lengths(text, at, &lengths[..n]);
             put_end(text, end)
         }
-        Read::Refused(r) => put_refused(text, r.number),
+        Read::Refused(r) => put_refused(text, r),
     }
 }
 

@@ -4,6 +4,8 @@ use frame::DataPdu;
 use lines::put_end;
 use lines::put_number;
 use lines::put_text;
+use units::Refusal;
+use units::tells_checks;
 ghost use Prim.Native.Nat.{_+_, _*_, _≤_};
 ghost use lib.ListN.{length};
 
@@ -46,14 +48,27 @@ pub fn put_data(text: &mut [u8], d: DataPdu) -> usize
     put_end(text, b)
 }
 
+// Both checks of a refusal that tells of one.
+fn put_checks(text: &mut [u8], at: usize, refusal: Refusal) -> usize
+    requires { ⌜ at + 42 ≤ length (now text) ⌝ }
+    ensures { λ r. ⌜ r ≤ at + 42 ⌝ }
+{
+    if tells_checks(refusal.number) {
+        let a = put_field(text, at, refusal.found as u64);
+        return put_field(text, a, refusal.worked_out as u64);
+    }
+    at
+}
+
 // The line of a refused frame.
-pub fn put_refused(text: &mut [u8], number: u8) -> usize
+pub fn put_refused(text: &mut [u8], refusal: Refusal) -> usize
     requires { ⌜ 128 ≤ length (now text) ⌝ }
     ensures { λ r. ⌜ r ≤ 128 ⌝ }
 {
     let a = put_text(text, 0, b"refused");
-    let b = put_field(text, a, number as u64);
-    put_end(text, b)
+    let b = put_field(text, a, refusal.number as u64);
+    let c = put_checks(text, b, refusal);
+    put_end(text, c)
 }
 
 // The lengths behind a closing PDU, each a number.

@@ -1,13 +1,14 @@
 -- A turn is known from its number and whether it was done: no two have the same. Assumes nothing.
 use Prim.Native.Nat.{ℕ, zero, suc}
 use mathlib.Core.Path.{_≡_, refl, sym, ap, _∙_}
+use Rattle.units.specs.Refusals.{refusingCheck}
 use Rattle.frame.specs.Paper.{CountPaper}
 use Rattle.sender.specs.declared.Turned.{Turned}
 use Rattle.sender.specs.declared.Turned.the-variants.{Done, Refused}
 use Rattle.sender.specs.Calls.{turnedPaper}
 
 turnedFrom : ℕ → CountPaper → Turned
-turnedFrom zero p = Refused (record { number = p .number })
+turnedFrom zero p = Refused (refusingCheck (p .number) (p .found) (p .worked))
 turnedFrom (suc k) p = Done
 
 turned-from : (a : Turned) → turnedFrom (turnedPaper a .accepted) (turnedPaper a) ≡ a

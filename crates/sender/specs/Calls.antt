@@ -25,8 +25,8 @@ use Rattle.sender.specs.State.{damaged, isOpen, notLater, freshSender}
 
 -- document 01's number for a turn, and whether it was accepted
 unfoldable pub turnedPaper : Turned → CountPaper
-turnedPaper TurnDone = record { number = 0; accepted = 1; count = 0 }
-turnedPaper (NotTurned r) = record { number = r .number; accepted = 0; count = 0 }
+turnedPaper TurnDone = record { number = 0; found = 0; worked = 0; accepted = 1; count = 0 }
+turnedPaper (NotTurned r) = record { number = r .number; found = r .found; worked = r .«worked_out»; accepted = 0; count = 0 }
 
 -- a refused turn
 abbrev pub stays : Sender → ℕ → Turning

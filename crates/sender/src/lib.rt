@@ -177,6 +177,9 @@ pub fn closed_with_lengths(s: Sender, lengths: &[u16], out: &mut [u8]) -> Dispat
                 sender,
             }
         }
-        Written::Refused(r) => send_refused(s, r.number),
+        Written::Refused(r) => Dispatch {
+            answer: Written::Refused(r),
+            sender: s,
+        },
     }
 }

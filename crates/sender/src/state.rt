@@ -122,7 +122,11 @@ pub fn turn_refused(s: Sender, number: u8) -> Turning
     ensures { λ r. ⌜ r ≡ stays s number ⌝ }
 {
     Turning {
-        answer: Turned::Refused(Refusal { number }),
+        answer: Turned::Refused(Refusal {
+            number,
+            found: 0,
+            worked_out: 0,
+        }),
         sender: s,
     }
 }
@@ -152,7 +156,11 @@ pub fn send_refused(s: Sender, number: u8) -> Dispatch
     ensures { λ r. ⌜ r ≡ keeps s number ⌝ }
 {
     Dispatch {
-        answer: Written::Refused(Refusal { number }),
+        answer: Written::Refused(Refusal {
+            number,
+            found: 0,
+            worked_out: 0,
+        }),
         sender: s,
     }
 }

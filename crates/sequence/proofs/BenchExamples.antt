@@ -25,7 +25,7 @@ use Rattle.reception.proofs.HearingContradicts.{contradicting-packet}
 use Rattle.reception.proofs.HearingUndamaged.{stays-sound, empty-sound}
 use Rattle.reception.proofs.KeptAsHeld.{held-packet, held-empty, empty-matched}
 use Rattle.reception.proofs.WhatHearingAdds.{Sound, key-owned, data-taken}
-use Rattle.reception.specs.Several.{answers}
+use Rattle.reception.specs.Several.{answersTo}
 
 -- a data PDU of stamp 0
 abbrev pduOf : ℕ → ℕ → List ℕ → DataPdu
@@ -64,10 +64,10 @@ module _ (bearer period c : ℕ) (most : c ≤ mostCapacity) (least : 3 ≤ c) w
 
   -- B and then another frame
   abbrev afterwards : List ℕ → List Taken
-  afterwards f = answers empty bearer period (B ∷ f ∷ [])
+  afterwards f = answersTo empty bearer period (B ∷ f ∷ [])
 
   two-answers : (f : List ℕ) → afterwards f ≡ Done ∷ hearFrame heardB bearer period f .answer ∷ []
-  unfolding answers
+  unfolding answersTo
   two-answers f = ap (λ (o : Outcome). o .answer ∷ hearFrame (o .kept) bearer period f .answer ∷ []) B-heard
 
   module _ (p : List ℕ) (small : length p ≤ mostPayload) where
@@ -99,21 +99,21 @@ module _ (bearer period c : ℕ) (most : c ≤ mostCapacity) (least : 3 ≤ c) w
           (subst (λ (r : Held). packetContradicts r n e (length p) ≡ true) (sym held-then) h))
 
     -- G: number 1 at elapsed 2 is refused with 11
-    pub G-refused : answers (emptyKept bearer period 0 c) bearer period (B ∷ dataFrame 0 1 2 p ∷ []) ≡ Done ∷ Refused (refusing 11) ∷ []
+    pub G-refused : answersTo (emptyKept bearer period 0 c) bearer period (B ∷ dataFrame 0 1 2 p ∷ []) ≡ Done ∷ Refused (refusing 11) ∷ []
     unfolding dataWrong
     G-refused = refused 1 2 refl (omega arith) (G-contradicts c (length p) least most)
 
     -- number 2 at elapsed 1 is accepted
-    pub G-accepted : answers (emptyKept bearer period 0 c) bearer period (B ∷ dataFrame 0 2 1 p ∷ []) ≡ Done ∷ Done ∷ []
+    pub G-accepted : answersTo (emptyKept bearer period 0 c) bearer period (B ∷ dataFrame 0 2 1 p ∷ []) ≡ Done ∷ Done ∷ []
     unfolding dataWrong
     G-accepted = accepted 2 1 refl (omega arith) (G-agrees c (length p) least small)
 
     -- H: number 2 at elapsed 4,096 is accepted
-    pub H-accepted : answers (emptyKept bearer period 0 c) bearer period (B ∷ dataFrame 0 2 4096 p ∷ []) ≡ Done ∷ Done ∷ []
+    pub H-accepted : answersTo (emptyKept bearer period 0 c) bearer period (B ∷ dataFrame 0 2 4096 p ∷ []) ≡ Done ∷ Done ∷ []
     unfolding dataWrong
     H-accepted = accepted 2 4096 refl (omega arith) (H-agrees c (length p) least small)
 
     -- at elapsed 4,097 it is refused with 11
-    pub H-refused : answers (emptyKept bearer period 0 c) bearer period (B ∷ dataFrame 0 2 4097 p ∷ []) ≡ Done ∷ Refused (refusing 11) ∷ []
+    pub H-refused : answersTo (emptyKept bearer period 0 c) bearer period (B ∷ dataFrame 0 2 4097 p ∷ []) ≡ Done ∷ Refused (refusing 11) ∷ []
     unfolding dataWrong
     H-refused = refused 2 4097 refl (omega arith) (H-contradicts c (length p) least most)

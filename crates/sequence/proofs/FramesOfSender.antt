@@ -26,7 +26,7 @@ use Rattle.sender.proofs.StaysUndamaged.{open-undamaged, data-undamaged}
 use Rattle.sender.proofs.Undamaged.{undamaged, few-octets}
 use Rattle.reception.specs.declared.Taken.the-variants.{Done as Accepted}
 use Rattle.reception.specs.Hearing.{emptyKept}
-use Rattle.reception.specs.Several.{hearAll, answers}
+use Rattle.reception.specs.Several.{hearAll, answersTo}
 use Rattle.sequence.specs.Pieces.{Piece, frameOf, PieceOf, PiecesOf, lengthsOf, SameFrames}
 use Rattle.sequence.specs.Pieces.Piece.{DataOf, PlainClosing, ListedClosing}
 use Rattle.sequence.specs.Pieces.PieceOf.{with-lengths}
@@ -134,7 +134,7 @@ module _ (s : Sender) (stamp : ℕ) (ps : List (List ℕ)) (o : Opened s stamp p
 
   -- an empty record of its key that hears its frames, with room for all its packets, refuses none
   pub sender-never-refused : (bearer period capacity : ℕ) (xs : List Piece) → capacity ≤ mostCapacity → countOf ps ≤ capacity → PiecesOf ps xs
-      → answers (emptyKept bearer period stamp capacity) bearer period (map (frameOf stamp (s .packets .0) (s .octets .0) ps) xs)
+      → answersTo (emptyKept bearer period stamp capacity) bearer period (map (frameOf stamp (s .packets .0) (s .octets .0) ps) xs)
       ≡ replicate (length xs) Accepted
   sender-never-refused bearer period capacity xs fits room w =
       never-refused bearer period stamp (s .packets .0) (s .octets .0) ps opened-carried capacity xs fits room w

@@ -22,7 +22,7 @@ use Rattle.reception.proofs.HearingUndamaged.{stays-sound, empty-sound}
 use Rattle.reception.proofs.KeptAsHeld.{held-packet, held-empty}
 use Rattle.reception.proofs.SumsBefore.{before}
 use Rattle.reception.proofs.WhatHearingAdds.{Sound, sound-lists, key-owned, data-taken, ReadAsClosing, closing-taken}
-use Rattle.reception.specs.Several.{hearAll, answers}
+use Rattle.reception.specs.Several.{hearAll, answersTo}
 use Rattle.sequence.specs.Pieces.{Piece, frameOf, partOf, PieceOf, PiecesOf, lengthsOf}
 use Rattle.sequence.specs.Pieces.Piece.{DataOf, PlainClosing, ListedClosing}
 use Rattle.sequence.specs.Pieces.PieceOf.{a-packet, a-closing, with-lengths}
@@ -125,8 +125,8 @@ module _ (bearer period stamp packets octets : ℕ) (ps : List (List ℕ)) (c : 
       }
 
   -- each answer is "accepted"
-  all-taken : (k : Kept) {xs : List Piece} → Hears k → PiecesOf ps xs → answers k bearer period (map octetsIn xs) ≡ replicate (length xs) Done
-  unfolding answers
+  all-taken : (k : Kept) {xs : List Piece} → Hears k → PiecesOf ps xs → answersTo k bearer period (map octetsIn xs) ≡ replicate (length xs) Done
+  unfolding answersTo
   all-taken k h none = refl
   all-taken k h (more {x} {xs} q w) =
       rw (piece-taken k x h q) (ap (λ (l : List Taken). Done ∷ l) (all-taken (keepPart k s (partOf x)) (hears-on k x h q) w))
@@ -141,5 +141,5 @@ module _ (bearer period stamp packets octets : ℕ) (ps : List (List ℕ)) (c : 
 
   -- no order, repeat or loss makes an empty record refuse
   pub never-refused : (capacity : ℕ) (xs : List Piece) → capacity ≤ mostCapacity → countOf ps ≤ capacity → PiecesOf ps xs
-      → answers (emptyKept bearer period stamp capacity) bearer period (map (frameOf stamp packets octets ps) xs) ≡ replicate (length xs) Done
+      → answersTo (emptyKept bearer period stamp capacity) bearer period (map (frameOf stamp packets octets ps) xs) ≡ replicate (length xs) Done
   never-refused capacity xs fits room w = all-taken (emptyKept bearer period stamp capacity) (hears-first capacity fits room) w

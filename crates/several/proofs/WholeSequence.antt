@@ -12,7 +12,7 @@ use Rattle.reception.specs.declared.Taken.{Taken}
 use Rattle.reception.specs.declared.Taken.the-variants.{Done}
 use Rattle.reception.specs.declared.Taking.{Taking}
 use Rattle.reception.specs.Hearing.{Kept, Outcome, refuses, takes, keeps, unmatched, emptyKept}
-use Rattle.reception.specs.Several.{hearAll, answers, framesIn, hearSequence}
+use Rattle.reception.specs.Several.{hearAll, answersTo, framesIn, hearSequence}
 use Rattle.hearing.proofs.Answered.{refused-as}
 use Rattle.several.specs.Rest.{HearsAll, HearsSequence}
 
@@ -47,11 +47,11 @@ module _ (bearer period stamp : ℕ) (old : Kept) (octets ends : List ℕ) (room
 -- a refusal
 pub sequence-refused : (k : Kept) (n : ℕ) {t : Outcome} (ts : List Taken) (old : List ℕ) {r : Taking} → t ≡ refuses k n → r ≡ keeps (k .head) n
     → HearsSequence t ts old r (k .marks) (k .elapsed) (k .sizes) old
-sequence-refused k n ts old e q = record { taken = refused-as k n e q; numbers = rw e refl }
+sequence-refused k n ts old e q = record { taken = refused-as k n e q; answers = rw e refl }
 
 -- frames heard into the empty record
 pub sequence-heard : (k : Kept) (bearer period : ℕ) (frames : List (List ℕ)) {t : Outcome} (old : List ℕ) (h : Head) (marks elapsed sizes new : List ℕ)
     → t ≡ takes (hearAll k bearer period frames) → HearsAll k bearer period frames old h marks elapsed sizes new
-    → HearsSequence t (answers k bearer period frames) old (record { answer = Done; head = h }) marks elapsed sizes new
+    → HearsSequence t (answersTo k bearer period frames) old (record { answer = Done; head = h }) marks elapsed sizes new
 sequence-heard k bearer period frames old h marks elapsed sizes new e p =
-    record { taken = record { says = rw e refl; leaves = p .leaves ∙ rw e refl }; numbers = p .numbers ∙ rw e refl }
+    record { taken = record { says = rw e refl; leaves = p .leaves ∙ rw e refl }; answers = p .answers ∙ rw e refl }

@@ -10,6 +10,7 @@ use hearing::taking::refused;
 use reception::Head;
 use reception::Taken;
 use reception::Taking;
+use units::in_one;
 use units::limits::LAST_STAMP;
 use units::refusals::CAPACITIES_DIFFER;
 use units::refusals::NO_ROOM;
@@ -21,16 +22,16 @@ ghost use lib.ListN.{length};
 ghost use Rattle.reception.specs.Damage.{Matched};
 ghost use Rattle.reception.specs.Neighbours.{NoneBefore, NoneFrom};
 ghost use Rattle.reception.specs.Hearing.{keptIn, damagedKept, unused, emptyKept};
-ghost use Rattle.reception.specs.Several.{answers, numberOf, framesIn, hearSequence};
+ghost use Rattle.reception.specs.Several.{answersTo, answerOf, framesIn, hearSequence};
 ghost use Rattle.several.specs.Rest.{HearsAll, HearsSequence};
 
-// The refusal's number, or 0.
-fn number_of(t: Taken) -> u8
-    ensures { λ r. ⌜ r ≡ numberOf t ⌝ }
+// The answer to a frame in one number.
+fn answer_of(t: Taken) -> u64
+    ensures { λ r. ⌜ r ≡ answerOf t ⌝ }
 {
     match t {
         Taken::Done => 0,
-        Taken::Refused(r) => r.number,
+        Taken::Refused(r) => in_one(r),
     }
 }
 
@@ -65,16 +66,16 @@ fn hear_frames(
     sizes: &mut [u16],
     octets: &[u8],
     ends: &[u32],
-    numbers: &mut [u8],
+    answers: &mut [u64],
 ) -> Head
     requires { ⌜ Matched (now marks) (now elapsed) (now sizes) ⌝ }
     requires { ⌜ NoneBefore (now marks) (length (now marks)) ⌝ }
     requires { ⌜ NoneFrom (now marks) 0 ⌝ }
     requires { ⌜ damagedKept (keptIn h (now marks) (now elapsed) (now sizes)) ≡ false ⌝ }
-    requires { ⌜ length (now ends) ≤ length (now numbers) ⌝ }
+    requires { ⌜ length (now ends) ≤ length (now answers) ⌝ }
     ensures { λ r. ⌜ HearsAll (keptIn h (now (marks .entry)) (now (elapsed .entry)) (now (sizes .entry))) bearer period
-        (framesIn (now (octets .entry)) 0 (now (ends .entry))) (now (numbers .entry))
-        r (now (marks .exit)) (now (elapsed .exit)) (now (sizes .exit)) (now (numbers .exit)) ⌝ }
+        (framesIn (now (octets .entry)) 0 (now (ends .entry))) (now (answers .entry))
+        r (now (marks .exit)) (now (elapsed .exit)) (now (sizes .exit)) (now (answers .exit)) ⌝ }
 {
     let mut head = h;
     let mut span = empty_span(marks.len());
@@ -87,7 +88,7 @@ fn hear_frames(
         let part = &octets[begin..end_in(begin, end, octets.len())];
         let t = hear_next(head, span, marks, elapsed, sizes, bearer, period, part);
         let answer = t.answer;
-        numbers[i] = number_of(answer);
+        answers[i] = answer_of(answer);
         head = t.head;
         span = t.span;
         from = end;
@@ -97,7 +98,7 @@ fn hear_frames(
 }
 
 // Hears the frames of a row of octets, each given by the place where it ends, into an empty record of a key. Answers to each frame go
-// in front of a lent list: 0, or a refusal's number.
+// in front of a lent list, each in one number: 0, or a refusal's.
 pub fn hear_sequence(
     bearer: u32,
     period: u32,
@@ -107,13 +108,13 @@ pub fn hear_sequence(
     sizes: &mut [u16],
     octets: &[u8],
     ends: &[u32],
-    numbers: &mut [u8],
+    answers: &mut [u64],
 ) -> Taking
     ensures { λ r. ⌜ HearsSequence
         (hearSequence bearer period stamp (unused (now (marks .entry)) (now (elapsed .entry)) (now (sizes .entry)))
-        (framesIn (now (octets .entry)) 0 (now (ends .entry))) (length (now (numbers .entry))))
-        (answers (emptyKept bearer period stamp (length (now (marks .entry)))) bearer period (framesIn (now (octets .entry)) 0 (now (ends .entry))))
-        (now (numbers .entry)) r (now (marks .exit)) (now (elapsed .exit)) (now (sizes .exit)) (now (numbers .exit)) ⌝ }
+        (framesIn (now (octets .entry)) 0 (now (ends .entry))) (length (now (answers .entry))))
+        (answersTo (emptyKept bearer period stamp (length (now (marks .entry)))) bearer period (framesIn (now (octets .entry)) 0 (now (ends .entry))))
+        (now (answers .entry)) r (now (marks .exit)) (now (elapsed .exit)) (now (sizes .exit)) (now (answers .exit)) ⌝ }
 {
     if lists_differ(marks.len(), elapsed.len(), sizes.len()) {
         return refused(open_head(0, 0, 0), CAPACITIES_DIFFER);
@@ -121,7 +122,7 @@ pub fn hear_sequence(
     if LAST_STAMP < stamp as u64 {
         return refused(open_head(0, 0, 0), STAMP_TOO_HIGH);
     }
-    if numbers.len() < ends.len() {
+    if answers.len() < ends.len() {
         return refused(open_head(0, 0, 0), NO_ROOM);
     }
     clear(marks, elapsed, sizes);
@@ -135,7 +136,7 @@ pub fn hear_sequence(
         sizes,
         octets,
         ends,
-        numbers,
+        answers,
     );
     Taking {
         answer: Taken::Done,

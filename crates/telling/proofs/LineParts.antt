@@ -28,7 +28,7 @@ module _ (word : List ℕ) {old mid : List ℕ} {at x : ℕ} (h : at ≤ length 
   unfolding begun
   puts-single a w p = puts-field word [] a h (puts-word w) p
 
-  -- a second number, and a third one
+  -- a second number, a third and a fourth one
   pub puts-second : (a b : ℕ) {y : ℕ} {new : List ℕ} → Puts (begun word (a ∷ [])) old at x mid → Puts (field b) mid x y new → Puts (begun word (a ∷ b ∷ [])) old at y new
   unfolding begun
   puts-second a b w p = puts-field word (a ∷ []) b h w p
@@ -37,6 +37,11 @@ module _ (word : List ℕ) {old mid : List ℕ} {at x : ℕ} (h : at ≤ length 
       → Puts (begun word (a ∷ b ∷ c ∷ [])) old at y new
   unfolding begun
   puts-third a b c w p = puts-field word (a ∷ b ∷ []) c h w p
+
+  pub puts-fourth : (a b c d : ℕ) {y : ℕ} {new : List ℕ} → Puts (begun word (a ∷ b ∷ c ∷ [])) old at x mid → Puts (field d) mid x y new
+      → Puts (begun word (a ∷ b ∷ c ∷ d ∷ [])) old at y new
+  unfolding begun
+  puts-fourth a b c d w p = puts-field word (a ∷ b ∷ c ∷ []) d h w p
 
   -- the line's end makes it a line
   pub puts-ended : (ns : List ℕ) {y : ℕ} {new : List ℕ} → Puts (begun word ns) old at x mid → Puts (10 ∷ []) mid x y new → Puts (line word ns) old at y new

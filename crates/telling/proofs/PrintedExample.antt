@@ -9,6 +9,7 @@ use lib.Dec.{ltb}
 use lib.ListN.{length, getD, length-replicate}
 use borrow.Author.Tests.{le-ltb}
 use Rattle.units.specs.Limits.{mostPayload, mostCapacity}
+use Rattle.units.specs.Refusals.{refusing, refusingCheck}
 use Rattle.frame.specs.Counts.{sumOf}
 use Rattle.frame.proofs.BenchExamples.{C, C-read}
 use Rattle.lines.specs.Text.{digitsWithin, decimal, field, fieldsOf, line}
@@ -117,10 +118,22 @@ fresh-printed c =
     nothing-heard : (c k : ℕ) → Heard (emptyRecord c) k → ⊥
     nothing-heard c k h = let z : _≡_ {A = ℕ} 0 1 = h .marked in omega (arith, z)
 
--- "refused 2 7"
-pub refused-printed : refusedLine 2 7 ≡ 114 ∷ 101 ∷ 102 ∷ 117 ∷ 115 ∷ 101 ∷ 100 ∷ 32 ∷ 50 ∷ 32 ∷ 55 ∷ 10 ∷ []
+-- "refused 2 8": other refusals print as they did
+pub refused-printed : refusedLine 2 (refusing 8) ≡ 114 ∷ 101 ∷ 102 ∷ 117 ∷ 115 ∷ 101 ∷ 100 ∷ 32 ∷ 50 ∷ 32 ∷ 56 ∷ 10 ∷ []
 unfolding digitsWithin decimal field fieldsOf line
 refused-printed = refl
+
+-- "refused 4 7 514 49": example D as it is printed
+pub checks-printed : refusedLine 4 (refusingCheck 7 514 49)
+    ≡ 114 ∷ 101 ∷ 102 ∷ 117 ∷ 115 ∷ 101 ∷ 100 ∷ 32 ∷ 52 ∷ 32 ∷ 55 ∷ 32 ∷ 53 ∷ 49 ∷ 52 ∷ 32 ∷ 52 ∷ 57 ∷ 10 ∷ []
+unfolding digitsWithin decimal field fieldsOf line
+checks-printed = refl
+
+-- "refused 2 4 0 19": a check that is 0 is printed
+pub zero-printed : refusedLine 2 (refusingCheck 4 0 19)
+    ≡ 114 ∷ 101 ∷ 102 ∷ 117 ∷ 115 ∷ 101 ∷ 100 ∷ 32 ∷ 50 ∷ 32 ∷ 52 ∷ 32 ∷ 48 ∷ 32 ∷ 49 ∷ 57 ∷ 10 ∷ []
+unfolding digitsWithin decimal field fieldsOf line
+zero-printed = refl
 
 -- "bad input 14"
 pub bad-printed : badLine 14 ≡ 98 ∷ 97 ∷ 100 ∷ 32 ∷ 105 ∷ 110 ∷ 112 ∷ 117 ∷ 116 ∷ 32 ∷ 49 ∷ 52 ∷ 10 ∷ []

@@ -3,6 +3,9 @@ use Prim.Native.Nat.{ℕ, _+_, _*_}
 use mathlib.Core.Bool.{cond}
 use mathlib.Core.List.{List, [], _∷_, _++_}
 use lib.ListN.{length}
+use Rattle.units.specs.declared.Refusal.{Refusal}
+use Rattle.units.specs.Refusals.{tellsChecks}
+use Rattle.fields.specs.Choice.{_when_otherwise_}
 use Rattle.lines.specs.Text.{fieldsOf, line}
 use Rattle.reception.specs.declared.Head.{Head}
 use Rattle.reception.specs.Sendings.{Held}
@@ -62,9 +65,13 @@ figureLines r =
 unfoldable pub accountText : Kept → List ℕ
 accountText k = sequenceLine (k .head) ++ figureLines (heldBy k) ++ gapLines (gapsOf (heldBy k)) ++ line endWord []
 
+-- document 02, request 6, of refusals 4 and 7: "The printed account shows both in decimal after the number"
+abbrev pub checksOf : Refusal → List ℕ
+checksOf r = (r .found ∷ r .«worked_out» ∷ []) when tellsChecks (r .number) otherwise []
+
 -- "a refused one prints "refused", its place among all items from 1, its number"
-abbrev pub refusedLine : ℕ → ℕ → List ℕ
-refusedLine place number = line refusedWord (place ∷ number ∷ [])
+abbrev pub refusedLine : ℕ → Refusal → List ℕ
+refusedLine place r = line refusedWord (place ∷ r .number ∷ checksOf r)
 
 -- "prints "bad input" and the item's offset in octets from 0"
 abbrev pub badLine : ℕ → List ℕ

@@ -10,9 +10,12 @@ use gaps::put_gaps;
 use lines::put_end;
 use lines::put_number;
 use lines::put_text;
+use parts::put_four;
 use parts::put_pair;
 use reception::Head;
 use reporting::counting::count;
+use units::Refusal;
+use units::tells_checks;
 ghost use mathlib.Core.Path.{_≡_};
 ghost use mathlib.Core.Bool.{false};
 ghost use Prim.Native.Nat.{_+_, _≤_};
@@ -61,13 +64,19 @@ pub fn put_account(
     put_close(out, z)
 }
 
-// The line of a refused frame: its place among all items, from 1, and the refusal's number.
-pub fn put_refused(out: &mut [u8], at: usize, place: u64, number: u8) -> usize
-    requires { ⌜ at + 64 ≤ length (now out) ⌝ }
-    ensures { λ r. ⌜ Puts (refusedLine place number) (now (out .entry)) at r (now (out .exit)) ⌝ }
-    ensures { λ r. ⌜ r ≤ at + 64 ⌝ }
+// The line of a refused frame: its place among all items, from 1, the refusal's number, and both checks where it tells of one.
+pub fn put_refused(out: &mut [u8], at: usize, place: u64, r: Refusal) -> usize
+    requires { ⌜ at + 128 ≤ length (now out) ⌝ }
+    ensures { λ n. ⌜ Puts (refusedLine place r) (now (out .entry)) at n (now (out .exit)) ⌝ }
+    ensures { λ n. ⌜ n ≤ at + 128 ⌝ }
 {
-    put_pair(out, at, b"refused", place, number as u64)
+    let number = r.number as u64;
+    if tells_checks(r.number) {
+        let found = r.found as u64;
+        let worked_out = r.worked_out as u64;
+        return put_four(out, at, b"refused", place, number, found, worked_out);
+    }
+    put_pair(out, at, b"refused", place, number)
 }
 
 // The line of an item that is none, which begins at this offset.

@@ -35,3 +35,13 @@ pub fn put_pair(out: &mut [u8], at: usize, word: &[u8], a: u64, b: u64) -> usize
     let x = put_two(out, at, word, a, b);
     put_end(out, x)
 }
+
+// A line of a word and four numbers.
+pub fn put_four(out: &mut [u8], at: usize, word: &[u8], a: u64, b: u64, c: u64, d: u64) -> usize
+    requires { ⌜ at + length (now word) + 85 ≤ length (now out) ⌝ }
+    ensures { λ r. ⌜ Puts (line (now (word .entry)) (a ∷ b ∷ c ∷ d ∷ [])) (now (out .entry)) at r (now (out .exit)) ⌝ }
+{
+    let x = put_three(out, at, word, a, b, c);
+    let y = put_number(out, x, d);
+    put_end(out, y)
+}

@@ -1,7 +1,9 @@
 -- The refusal numbers by name: the rows of document 01, "Refusal numbers", but for one that document 02, request 9, took out (decision 22).
 -- Assumes nothing.
 use Prim.Native.Nat.{ℕ}
+use mathlib.Core.Bool.{Bool, _||_}
 use mathlib.Core.List.{List, [], _∷_}
+use lib.Dec.{eqb}
 use Rattle.units.specs.declared.Refusal.{Refusal}
 
 -- no octet at all, or fewer than the type's least size
@@ -97,6 +99,14 @@ abbrev pub refusals : List ℕ
 refusals =
     tooShort ∷ typeTwo ∷ typeUnknown ∷ headerCheckWrong ∷ stampTooHigh ∷ sizeWrong ∷ payloadCheckWrong ∷ countsImpossible ∷ otherSequence ∷ beyondCapacity ∷ contradiction ∷ noRoom ∷ recordDamaged ∷ capacitiesDiffer ∷ outOfTurn ∷ stampNotLater ∷ sequenceFull ∷ periodFull ∷ payloadTooLong ∷ senderDamaged ∷ lengthsWrong ∷ periodOver ∷ []
 
+-- document 02, request 6: which refusals tell of a check, "4 and 7"
+abbrev pub tellsChecks : ℕ → Bool
+tellsChecks n = eqb n headerCheckWrong || eqb n payloadCheckWrong
+
+-- "shall give, with refusals 4 and 7, the check found and the check worked out"
+abbrev pub refusingCheck : ℕ → ℕ → ℕ → Refusal
+refusingCheck n found worked = record { number = n; found = found; «worked_out» = worked }
+
 -- the refusal with a number: "a refusal returns its number and zeros elsewhere"
 abbrev pub refusing : ℕ → Refusal
-refusing n = record { number = n }
+refusing n = refusingCheck n 0 0

@@ -39,21 +39,31 @@ pub fn write_data(
     if LAST_STAMP < stamp as u64 {
         return Written::Refused(Refusal {
             number: STAMP_TOO_HIGH,
+            found: 0,
+            worked_out: 0,
         });
     }
     if MOST_PAYLOAD < payload.len() as u64 {
         return Written::Refused(Refusal {
             number: PAYLOAD_TOO_LONG,
+            found: 0,
+            worked_out: 0,
         });
     }
     if counts::data_wrong(number, elapsed) {
         return Written::Refused(Refusal {
             number: COUNTS_IMPOSSIBLE,
+            found: 0,
+            worked_out: 0,
         });
     }
     let size = DATA_HEAD + payload.len();
     if out.len() < size {
-        return Written::Refused(Refusal { number: NO_ROOM });
+        return Written::Refused(Refusal {
+            number: NO_ROOM,
+            found: 0,
+            worked_out: 0,
+        });
     }
     frames::put_data(stamp, number, elapsed, payload, out);
     Written::Done(size)
@@ -69,15 +79,23 @@ pub fn write_closing(c: ClosingPdu, out: &mut [u8]) -> Written
     if LAST_STAMP < c.stamp as u64 {
         return Written::Refused(Refusal {
             number: STAMP_TOO_HIGH,
+            found: 0,
+            worked_out: 0,
         });
     }
     if given::given_wrong(c) {
         return Written::Refused(Refusal {
             number: COUNTS_IMPOSSIBLE,
+            found: 0,
+            worked_out: 0,
         });
     }
     if out.len() < CLOSING_SIZE {
-        return Written::Refused(Refusal { number: NO_ROOM });
+        return Written::Refused(Refusal {
+            number: NO_ROOM,
+            found: 0,
+            worked_out: 0,
+        });
     }
     frames::put_closing(c, out);
     Written::Done(CLOSING_SIZE)
@@ -93,21 +111,31 @@ pub fn write_closing_with_lengths(c: ClosingPdu, lengths: &[u16], out: &mut [u8]
     if LAST_STAMP < c.stamp as u64 {
         return Written::Refused(Refusal {
             number: STAMP_TOO_HIGH,
+            found: 0,
+            worked_out: 0,
         });
     }
     if given::given_wrong(c) {
         return Written::Refused(Refusal {
             number: COUNTS_IMPOSSIBLE,
+            found: 0,
+            worked_out: 0,
         });
     }
     if given::list_wrong(lengths, c.number, c.elapsed) {
         return Written::Refused(Refusal {
             number: LENGTHS_WRONG,
+            found: 0,
+            worked_out: 0,
         });
     }
     let size = LENGTHS_HEAD + packing::filled_octets(lengths.len());
     if out.len() < size {
-        return Written::Refused(Refusal { number: NO_ROOM });
+        return Written::Refused(Refusal {
+            number: NO_ROOM,
+            found: 0,
+            worked_out: 0,
+        });
     }
     frames::put_with_lengths(c, lengths, out);
     Written::Done(size)

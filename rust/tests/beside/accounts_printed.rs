@@ -1,6 +1,7 @@
 //! The account program as it is run: the samples beside their texts, and generated inputs beside a plain Rust program.
 
-use crate::frames::Reader;
+use crate::checks_told::{WrongChecks, every_wrong_check};
+use crate::frames::{Reader, Refused};
 use crate::peers::Noise;
 use crate::sequences::{LONGEST, Sequence, any_length, below, next_to, one_in};
 use crate::{account, generate, items};
@@ -127,10 +128,19 @@ fn samples_print_the_texts_beside_them() {
     }
 }
 
+/// What a line "refused" says behind its place: the refusal's number, and behind 4 and 7, and no other, both checks.
+fn refusal(line: &str) -> Option<Refused> {
+    let fields = line.strip_prefix("refused ")?.split(' ').map(|field| field.parse().expect("a number"));
+    match fields.collect::<Vec<u64>>()[1..] {
+        [number @ (4 | 7), found, worked_out] => Some(Refused { number: number as u8, found: found as u16, worked_out: worked_out as u16 }),
+        [number @ (1..=3 | 5 | 6 | 8..=11)] => Some(Refused::from(number as u8)),
+        _ => panic!("a refusal is not printed so: {line}"),
+    }
+}
+
 /// The numbers in "refused" lines.
 fn refusals(text: &str) -> impl Iterator<Item = usize> + '_ {
-    let lines = text.lines().filter_map(|line| line.strip_prefix("refused "));
-    lines.map(|fields| fields.split(' ').nth(1).and_then(|number| number.parse().ok()).expect("a place and a number"))
+    text.lines().filter_map(refusal).map(|why| why.number.into())
 }
 
 /// The numbers of hearing are 1 to 11, 13 and 14. The last two are not to be had from an input: the record is the program's own, so
@@ -230,6 +240,10 @@ fn more_text_than_room_for_it() {
     let reader = Reader::new();
     let empty_frames = [items::key(KEY), items::frame(&[]).repeat(70_000)].concat();
     assert_eq!(printed_alike(&empty_frames, "empty frames").lines().count(), 70_005);
+    let mut wrong_check = generate::data(&reader, KEY.stamp, 0, 0, 0);
+    generate::put_payload_check(&mut wrong_check, 1_023);
+    let wrong_checks = [items::key(KEY), items::frame(&wrong_check).repeat(70_000)].concat();
+    assert!(printed_alike(&wrong_checks, "wrong checks").contains("\nrefused 70001 7 1023 0\nsequence "));
     let widest = Key { bearer: u32::MAX, period: u32::MAX, stamp: 59_999 };
     let keys = items::key(widest).repeat(30_000);
     assert_eq!(printed_alike(&keys, "keys alone").lines().count(), 5 * 30_000);
@@ -308,7 +322,7 @@ fn at_a_bound(noise: &mut Noise, reader: &Reader, sequence: &Sequence) -> Vec<u8
 /// A frame for a sequence: half of them good, the others wrong in one of many ways.
 fn any_frame(noise: &mut Noise, reader: &Reader, sequence: &Sequence) -> Vec<u8> {
     let stamp = sequence.key.stamp;
-    match below(noise, 18) {
+    match below(noise, 22) {
         0 | 1 => sequence.almost(noise).good(noise, reader),
         2 => sequence.near_closing(noise, reader),
         3 => at_a_bound(noise, reader, sequence),
@@ -318,6 +332,11 @@ fn any_frame(noise: &mut Noise, reader: &Reader, sequence: &Sequence) -> Vec<u8>
         8 => {
             let other = Key { stamp: next_to(noise, stamp.into()) as u32, ..sequence.key };
             Sequence { key: other, lengths: sequence.lengths.clone() }.good(noise, reader)
+        }
+        9 | 10 => {
+            let mut frame = sequence.good(noise, reader);
+            generate::spoil_a_check(noise, &mut frame);
+            frame
         }
         _ => sequence.good(noise, reader),
     }
@@ -330,6 +349,22 @@ fn any_sequence(noise: &mut Noise, reader: &Reader, sequence: &Sequence, most: u
         input.extend(items::frame(&any_frame(noise, reader, sequence)));
     }
     input
+}
+
+/// Each line has what was put into its frame, and what long division gives.
+#[test]
+fn every_wrong_check_is_printed() {
+    let all = every_wrong_check(&Reader::new());
+    let mut input = items::key(KEY);
+    all.iter().for_each(|(frame, _)| input.extend(items::frame(frame)));
+    let (text, mut wrong) = (printed_alike(&input, "every wrong check"), WrongChecks::default());
+    for (place, ((frame, why), line)) in all.iter().zip(text.lines()).enumerate() {
+        let Refused { number, found, worked_out } = why;
+        assert_eq!(line, format!("refused {} {number} {found} {worked_out}", place + 2), "{frame:02X?}");
+        wrong.add(frame, refusal(line).expect("a refused frame"));
+    }
+    assert_eq!(text.lines().count(), all.len() + 5);
+    wrong.all_came();
 }
 
 /// How often each refusal is in a text, and how many accounts are.

@@ -2,7 +2,7 @@
 //! back by reading.
 use crate::counted::{LISTED, WRITTEN};
 use crate::fences::Fenced;
-use crate::frames::{Closing, Reader, length_at};
+use crate::frames::{Closing, Reader, Refused, length_at, refused};
 use crate::generate;
 use crate::peers::Noise;
 use crate::sequences::{Tally, any_length, below, next_to, numbered, one_in};
@@ -237,14 +237,15 @@ fn lengths_are_read_alike() {
         let count = if let Ok(crate::frames::Frame::ClosingWithLengths(said)) = read { said.number as usize } else { 0 };
         let lengths: Vec<u16> = (0..count).map(|place| length_at(&frame, place) as u16).collect();
         let mut memory: Vec<u16> = (0..any_room(&mut noise, count)).map(|_| noise.next() as u16).collect();
-        let expected = read.and(if memory.len() < count { Err(12) } else { Ok(count) });
+        let expected = read.and(if memory.len() < count { refused(12) } else { Ok(count) });
         let mut ours = Fenced::around(&memory);
-        assert_eq!(numbered(frames::read_lengths(&frame, ours.lent())), expected, "room {}, {frame:02X?}", memory.len());
+        let answer = frames::read_lengths(&frame, ours.lent()).map_err(Refused::from);
+        assert_eq!(answer, expected, "room {}, {frame:02X?}", memory.len());
         if expected.is_ok() {
             memory[..count].copy_from_slice(&lengths);
         }
         assert!(ours == Fenced::around(&memory), "the lists differ: {frame:02X?}, ours {ours:?}, expected {memory:?}");
-        assert_eq!(numbered(frames::lengths(&frame)), read.map(|_| lengths), "{frame:02X?}");
+        assert_eq!(frames::lengths(&frame).map_err(Refused::from), read.map(|_| lengths), "{frame:02X?}");
         lists += usize::from(expected.is_ok() && count > 0);
         tally.add(expected.map(|_| ()));
     }

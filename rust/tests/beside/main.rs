@@ -29,6 +29,7 @@ mod writing;
 mod accounts_cut_off;
 mod accounts_printed;
 mod checks_alike;
+mod checks_told;
 mod clock_alike;
 mod counted;
 mod frames_read;

@@ -1,8 +1,9 @@
 //! Compiled records beside records written on their own from document 01: good frames, contradicting ones, and damaged lists.
 
+use crate::checks_told::{WrongChecks, as_answer};
 use crate::counted::{FRESH, HEARD};
 use crate::fences::{Fenced, FencedRecord};
-use crate::frames::Reader;
+use crate::frames::{Reader, Refused, refused};
 use crate::generate;
 use crate::peers::Noise;
 use crate::records::{PlainRecord, Written};
@@ -10,9 +11,9 @@ use crate::sequences::{DAMAGES, LONGEST, Sequence, Tally, any_capacity, at_a_bou
 use quimdoral::{Key, Record, lent};
 
 /// Hears with the library and with the peer, and compares the answers and every number of the record afterwards, fences included.
-fn hear_alike(record: &mut Written, reader: &Reader, (bearer, period): (u32, u32), frame: &[u8]) -> Result<(), u8> {
+fn hear_alike(record: &mut Written, reader: &Reader, (bearer, period): (u32, u32), frame: &[u8]) -> Result<(), Refused> {
     let mut ours = FencedRecord::around(record);
-    let answer = numbered(lent::hear(ours.lists(), bearer, period, frame));
+    let answer = lent::hear(ours.lists(), bearer, period, frame).map_err(Refused::from);
     let before = record.clone();
     let expected = record.hear(reader, bearer, period, frame);
     let input = || format!("bearer {bearer}, period {period}, frame {:02X?}, record {before:?}", &frame[..frame.len().min(24)]);
@@ -53,7 +54,7 @@ fn spoil(noise: &mut Noise, frame: &mut Vec<u8>) {
 /// A frame for a record of a sequence: half of them good, the others wrong in one of many ways.
 fn any_frame(noise: &mut Noise, reader: &Reader, sequence: &Sequence, record: &Written) -> Vec<u8> {
     let stamp = sequence.key.stamp;
-    match below(noise, 16) {
+    match below(noise, 22) {
         0 | 1 => sequence.almost(noise).good(noise, reader),
         2 | 3 => {
             let (packet, elapsed, size) = at_a_bound(noise, record);
@@ -61,7 +62,7 @@ fn any_frame(noise: &mut Noise, reader: &Reader, sequence: &Sequence, record: &W
         }
         4 => sequence.near_closing(noise, reader),
         5 => beyond(noise, reader, record.marks.len() as u64, stamp),
-        6 => generate::any(noise, reader),
+        6 | 9 => generate::any(noise, reader),
         7 => {
             let mut frame = sequence.good(noise, reader);
             spoil(noise, &mut frame);
@@ -70,6 +71,11 @@ fn any_frame(noise: &mut Noise, reader: &Reader, sequence: &Sequence, record: &W
         8 => {
             let other = Key { stamp: next_to(noise, stamp.into()) as u32, ..sequence.key };
             Sequence { key: other, lengths: sequence.lengths.clone() }.good(noise, reader)
+        }
+        10..=12 => {
+            let mut frame = sequence.good(noise, reader);
+            generate::spoil_a_check(noise, &mut frame);
+            frame
         }
         _ => sequence.good(noise, reader),
     }
@@ -85,11 +91,11 @@ fn any_way(noise: &mut Noise, key: Key) -> (u32, u32) {
     }
 }
 
-/// Hears frames of many sequences of at most so many packets, and tells how often each answer came.
-fn hear_many(seed: u64, most: u64, calls: usize) -> Tally {
+/// Hears frames of many sequences of at most so many packets, and tells how often each answer came, and with which checks.
+fn hear_many(seed: u64, most: u64, calls: usize) -> (Tally, WrongChecks) {
     let reader = Reader::new();
     let mut noise = Noise(seed);
-    let mut tally = Tally::default();
+    let (mut tally, mut wrong) = (Tally::default(), WrongChecks::default());
     while tally.calls() < calls {
         let sequence = Sequence::any(&mut noise, most);
         let Key { bearer, period, stamp } = sequence.key;
@@ -102,22 +108,26 @@ fn hear_many(seed: u64, most: u64, calls: usize) -> Tally {
             let answer = hear_alike(&mut record, &reader, way, &frame);
             assert_eq!(plain.hear(&reader, way.0, way.1, &frame), answer, "the plain record on {frame:02X?} after {record:?}");
             tally.add(answer);
+            if let Err(why) = answer {
+                wrong.add(&frame, why);
+            }
         }
         same_as_plain(&record, &plain);
     }
-    tally
+    (tally, wrong)
 }
 
 #[test]
 fn frames_are_heard_alike() {
-    let tally = hear_many(21, 30, HEARD[0]);
+    let (tally, wrong) = hear_many(21, 30, HEARD[0]);
     // every answer that an undamaged record can give came up often enough to mean something
     assert!(tally.calls() >= HEARD[0] && (0..12).all(|answer| tally.0[answer] > 300), "{tally:?}");
+    wrong.all_came();
 }
 
 #[test]
 fn frames_are_heard_alike_in_longer_records() {
-    let tally = hear_many(26, 1_000, HEARD[1]);
+    let (tally, _) = hear_many(26, 1_000, HEARD[1]);
     assert!(tally.calls() >= HEARD[1] && [0, 9, 10, 11].iter().all(|&answer| tally.0[answer] > 1_000), "{tally:?}");
 }
 
@@ -187,7 +197,7 @@ fn damaged_records_are_refused_alike() {
 }
 
 /// Many frames at once, from memory that held anything, against the peer hearing them one by one; ends are at times out of order.
-fn hear_all_alike(noise: &mut Noise, reader: &Reader) -> Result<(), u8> {
+fn hear_all_alike(noise: &mut Noise, reader: &Reader, wrong: &mut WrongChecks) -> Result<(), u8> {
     let sequence = Sequence::any(noise, 20);
     let Key { bearer, period, stamp } = sequence.key;
     let capacity = any_capacity(noise, sequence.lengths.len());
@@ -198,21 +208,25 @@ fn hear_all_alike(noise: &mut Noise, reader: &Reader) -> Result<(), u8> {
         octets.extend(frame);
         ends.push(if one_in(noise, 20) { below(noise, octets.len() as u64 + 9) as u32 } else { octets.len() as u32 });
     }
-    let (mut from, mut told) = (0, Vec::new());
+    let (mut from, mut told, mut reasons) = (0, Vec::new(), Vec::new());
     for &end in &ends {
         let frame = octets.get(from..(end as usize).min(octets.len())).unwrap_or(&[]);
-        told.push(expected.hear(reader, bearer, period, frame).err().unwrap_or(0));
+        let answer = expected.hear(reader, bearer, period, frame);
+        told.push(as_answer(answer));
+        reasons.extend(answer.err().map(|why| (frame, why)));
         from = end as usize;
     }
-    hear_all_as_told(noise, sequence.key, (&octets, &ends), expected, &told)
+    hear_all_as_told(noise, sequence.key, (&octets, &ends), expected, &told)?;
+    reasons.into_iter().for_each(|(frame, why)| wrong.add(frame, why));
+    Ok(())
 }
 
 /// The call itself, at times with lists that do not match, a stamp that is too high or too little room: 14, 5, 12.
-fn hear_all_as_told(noise: &mut Noise, mut key: Key, (octets, ends): (&[u8], &[u32]), expected: Written, told: &[u8]) -> Result<(), u8> {
+fn hear_all_as_told(noise: &mut Noise, mut key: Key, (octets, ends): (&[u8], &[u32]), expected: Written, told: &[u64]) -> Result<(), u8> {
     let capacity = expected.marks.len();
     let mut memory = Written { head: vec![5; 6], marks: noise.octets(capacity), elapsed: vec![7; capacity], sizes: vec![9; capacity] };
     let room = ends.len() + 2 - below(noise, 4) as usize % (ends.len() + 3);
-    let mut numbers = noise.octets(room);
+    let mut held: Vec<u64> = (0..room).map(|_| noise.next()).collect();
     if one_in(noise, 8) {
         let way = 10 + below(noise, 2);
         damage(noise, &mut memory, way);
@@ -221,25 +235,28 @@ fn hear_all_as_told(noise: &mut Noise, mut key: Key, (octets, ends): (&[u8], &[u
         key.stamp = [60_000, u32::MAX][below(noise, 2) as usize];
     }
     let refusal = memory.lists_fit().and(if key.stamp > 59_999 { Err(5) } else { Ok(()) });
-    let refusal = refusal.and(if numbers.len() < ends.len() { Err(12) } else { Ok(()) });
-    let (mut ours, mut answers) = (FencedRecord::around(&memory), Fenced::around(&numbers));
+    let refusal = refusal.and(if room < ends.len() { Err(12) } else { Ok(()) });
+    let (mut ours, mut answers) = (FencedRecord::around(&memory), Fenced::around(&held));
     assert_eq!(numbered(lent::hear_all(key, ours.lists(), octets, ends, answers.lent())), refusal);
+    // where all is refused, the answers stay as they were; else those behind the last frame's
     if refusal.is_ok() {
-        numbers[..told.len()].copy_from_slice(told);
+        held[..told.len()].copy_from_slice(told);
         memory = expected;
     }
     assert!(ours == FencedRecord::around(&memory), "the records differ: ends {ends:?}, ours {ours:?}, expected {memory:?}");
-    assert!(answers == Fenced::around(&numbers), "the answers differ: ends {ends:?}, ours {answers:?}, expected {numbers:?}");
+    assert!(answers == Fenced::around(&held), "the answers differ: ends {ends:?}, ours {answers:?}, expected {held:?}");
     refusal
 }
 
 #[test]
 fn frames_in_one_call_are_heard_alike() {
     let (reader, mut noise, mut tally) = (Reader::new(), Noise(27), Tally::default());
+    let mut wrong = WrongChecks::default();
     for _ in 0..HEARD[3] {
-        tally.add(hear_all_alike(&mut noise, &reader));
+        tally.add(hear_all_alike(&mut noise, &reader, &mut wrong));
     }
     assert!(tally.calls() == HEARD[3] && [0, 5, 12, 14].iter().all(|&answer| tally.0[answer] > 1_000), "{tally:?}");
+    wrong.all_came();
 }
 
 #[test]
@@ -276,7 +293,7 @@ fn the_longest_records_are_heard_alike() {
         let frame = sequence.data(&reader, packet);
         assert_eq!(hear_alike(&mut record, &reader, (1, 2), &frame), Ok(()));
         let off = generate::data(&reader, 3, packet as u64, sequence.octets(packet).saturating_sub(1), LONGEST as usize);
-        assert_eq!(hear_alike(&mut record, &reader, (1, 2), &off), if packet == 0 { Ok(()) } else { Err(11) });
+        assert_eq!(hear_alike(&mut record, &reader, (1, 2), &off), if packet == 0 { Ok(()) } else { refused(11) });
         if turn % 30 == 0 {
             let frame = any_frame(&mut noise, &reader, &sequence, &record);
             let _ = hear_alike(&mut record, &reader, (1, 2), &frame);
@@ -297,7 +314,7 @@ fn damage_the_last_place(reader: &Reader, sequence: &Sequence, record: &Written,
         1 => record.elapsed[65_534] -= 1,
         _ => record.sizes[65_534] -= 1,
     }
-    assert_eq!(hear_alike(&mut record, reader, (1, 2), &sequence.data(reader, 0)), Err(13));
+    assert_eq!(hear_alike(&mut record, reader, (1, 2), &sequence.data(reader, 0)), refused(13));
 }
 
 #[test]
@@ -306,17 +323,17 @@ fn capacities_at_their_limits() {
     let first = generate::data(&reader, 0, 0, 0, 1);
     let none = generate::closing(&reader, 0, 0, 0);
     let mut record = Written::empty(7, 3, 0, 0);
-    assert_eq!(hear_alike(&mut record, &reader, (7, 3), &first), Err(10));
-    assert_eq!(hear_alike(&mut record, &reader, (7, 3), &generate::closing(&reader, 0, 1, 1)), Err(10));
+    assert_eq!(hear_alike(&mut record, &reader, (7, 3), &first), refused(10));
+    assert_eq!(hear_alike(&mut record, &reader, (7, 3), &generate::closing(&reader, 0, 1, 1)), refused(10));
     assert_eq!(hear_alike(&mut record, &reader, (7, 3), &none), Ok(()));
     assert_eq!(record.head, [7, 3, 0, 1, 0, 0]);
     let mut too_long = Written::empty(7, 3, 0, 65_536);
-    assert_eq!(hear_alike(&mut too_long, &reader, (7, 3), &first), Err(14));
-    assert_eq!(hear_alike(&mut too_long, &reader, (7, 3), &[]), Err(14));
+    assert_eq!(hear_alike(&mut too_long, &reader, (7, 3), &first), refused(14));
+    assert_eq!(hear_alike(&mut too_long, &reader, (7, 3), &[]), refused(14));
     assert_eq!(fresh_alike(&mut too_long, Key { bearer: 7, period: 3, stamp: 60_000 }), Err(14));
     let mut longest = Written::empty(7, 3, 0, 65_535);
     assert_eq!(hear_alike(&mut longest, &reader, (7, 3), &generate::data(&reader, 0, 65_534, LONGEST * 65_534, 0)), Ok(()));
-    assert_eq!(hear_alike(&mut longest, &reader, (7, 3), &generate::closing(&reader, 0, 65_535, LONGEST * 65_535)), Err(11));
+    assert_eq!(hear_alike(&mut longest, &reader, (7, 3), &generate::closing(&reader, 0, 65_535, LONGEST * 65_535)), refused(11));
     assert_eq!(hear_alike(&mut longest, &reader, (7, 3), &generate::closing(&reader, 0, 65_535, LONGEST * 65_534)), Ok(()));
 }
 
@@ -334,15 +351,15 @@ fn bounds_hold_at_both_ends() {
     for number in 2..8 {
         let least = start + 10;
         let most = least + (number - 2) * LONGEST;
-        for (octets, expected) in [(least - 1, Err(11)), (least, Ok(())), (most, Ok(())), (most + 1, Err(11))] {
+        for (octets, expected) in [(least - 1, refused(11)), (least, Ok(())), (most, Ok(())), (most + 1, refused(11))] {
             assert_eq!(answer(&generate::data(&reader, 0, number, octets, 0)), expected);
             assert_eq!(answer(&generate::closing(&reader, 0, number, octets)), expected);
         }
     }
-    for (size, expected) in [(start - 1, Err(11)), (start, Ok(())), (start + 1, Err(11))] {
+    for (size, expected) in [(start - 1, refused(11)), (start, Ok(())), (start + 1, refused(11))] {
         assert_eq!(answer(&generate::data(&reader, 0, 0, 0, size as usize)), expected);
     }
-    assert_eq!(answer(&generate::closing(&reader, 0, 1, start)), Err(11));
+    assert_eq!(answer(&generate::closing(&reader, 0, 1, start)), refused(11));
     assert_eq!(answer(&generate::closing(&reader, 0, 2, start + 10)), Ok(()));
 }
 
@@ -351,11 +368,11 @@ fn bounds_hold_at_both_ends() {
 fn examples_g_and_h() {
     let reader = Reader::new();
     let b = [0x10, 0, 0, 0, 0, 0, 0, 0, 0, 0x3A, 0x33, 0x01];
-    for (number, elapsed, expected) in [(1, 2, Err(11)), (2, 1, Ok(())), (2, 4_096, Ok(())), (2, 4_097, Err(11))] {
+    for (number, elapsed, expected) in [(1, 2, refused(11)), (2, 1, Ok(())), (2, 4_096, Ok(())), (2, 4_097, refused(11))] {
         let mut record = Record::fresh(Key { bearer: 7, period: 3, stamp: 0 }, 4).unwrap();
         assert_eq!(record.hear(7, 3, &b), Ok(()));
         let before = record.clone();
-        assert_eq!(numbered(record.hear(7, 3, &generate::data(&reader, 0, number, elapsed, 5))), expected);
+        assert_eq!(record.hear(7, 3, &generate::data(&reader, 0, number, elapsed, 5)).map_err(Refused::from), expected);
         assert_eq!(record == before, expected.is_err());
     }
 }

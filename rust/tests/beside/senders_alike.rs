@@ -5,7 +5,7 @@ use crate::fences::Fenced;
 use crate::frames_written::{any_room, one_of, spoil_lengths, write_alike};
 use crate::peers::Noise;
 use crate::senders::{CLOSED, FRESH, OPEN, State};
-use crate::sequences::{Tally, below, next_to, numbered, one_in};
+use crate::sequences::{Tally, below, next_to, one_in};
 use quimdoral::sender::Phase;
 use quimdoral::{Frame, Octets, Packets, Refusal, Sender, frames, lent, sender};
 
@@ -359,6 +359,6 @@ fn a_sequence_is_filled() {
     let state = sender.state();
     assert_eq!((state.number, state.elapsed), (Packets(65_535), Octets(4_095 * 65_535)));
     let closing = sender.close_with_lengths_to_vec(&[4_095; 65_535]).unwrap();
-    assert_eq!(numbered(quimdoral::frames::lengths(&closing)), Ok(vec![4_095; 65_535]));
+    assert_eq!(frames::lengths(&closing), Ok(vec![4_095; 65_535]));
     assert_eq!((sender.state().number, sender.state().total_packets), (Packets(0), Packets(65_535)));
 }

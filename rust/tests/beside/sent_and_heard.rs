@@ -1,7 +1,7 @@
 //! The types that own their memory, from the sender to the report: what receivers lost is what is told missing. Then records made from
 //! parts, damaged ones too, beside the peer.
 use crate::counted::{MADE, PERIODS};
-use crate::frames::Reader;
+use crate::frames::{Reader, Refused};
 use crate::joining::JoinRefusal;
 use crate::peers::Noise;
 use crate::records::Written;
@@ -158,7 +158,7 @@ fn use_made(noise: &mut Noise, reader: &Reader, way: u64) -> Option<Result<Repor
     assert_eq!(made(&written).map(|record| Record::from_parts(record.into_parts())), Some(record.clone()));
     let frame = sequence.good(noise, reader);
     let (mut ours, mut theirs) = (record.clone(), written.clone());
-    let answer = numbered(ours.hear(sequence.key.bearer, sequence.key.period, &frame));
+    let answer = ours.hear(sequence.key.bearer, sequence.key.period, &frame).map_err(Refused::from);
     assert_eq!(answer, theirs.hear(reader, sequence.key.bearer, sequence.key.period, &frame), "{written:?}, {frame:02X?}");
     assert_eq!(Some(ours), made(&theirs));
     for (left, right, left_written, right_written) in [(&record, &right, &written, &other), (&right, &record, &other, &written)] {

@@ -10,14 +10,14 @@ read-lengths-requires c κs = search needs
 enum-known-listed : tie.Need-enum-known-listed
 enum-known-listed c = search needs
 
-cast-result : tie.Need-cast-result
-cast-result c = search needs
+in-one-requires : tie.Need-in-one-requires
+in-one-requires c κs = search needs
 
 enum-known-listed-2 : tie.Need-enum-known-listed-2
 enum-known-listed-2 c = search needs
 
-cast-result-2 : tie.Need-cast-result-2
-cast-result-2 c = search needs
+cast-result : tie.Need-cast-result
+cast-result c = search needs
 
 mul-result : tie.Need-mul-result
 mul-result c = search needs
@@ -26,7 +26,7 @@ same-length : tie.Need-same-length
 same-length c = search needs
 
 returns : tie.Need-returns
-returns c = listed-refused _ _ _ _ (c .before .before .before .before .before .before .read-lengths .ensures) _ (c .before .before .listed .given .1)
+returns c = listed-refused _ _ _ _ (c .before .before .before .before .before .before .read-lengths .ensures) _ _ (c .before .before .listed .given .1) (c .in-one .ensures)
 
 same-length-2 : tie.Need-same-length-2
 same-length-2 c = search needs
@@ -40,9 +40,9 @@ lengths-in-one-spec =
     (tie.spec
     read-lengths-requires
     enum-known-listed
-    cast-result
+    in-one-requires
     enum-known-listed-2
-    cast-result-2
+    cast-result
     mul-result
     same-length
     returns

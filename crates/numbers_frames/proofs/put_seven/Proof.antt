@@ -8,6 +8,9 @@ use Rattle.numbers.proofs.StoredInFront.{seven}
 use Rattle.numbers_frames.proofs.put_seven.Statement.{statement}
 use Rattle.numbers_frames.proofs.put_seven.Tie as tie
 
+cast-result : tie.Need-cast-result
+cast-result c = search needs
+
 returns : tie.Need-returns
 returns c =
     let h = lt-ltb _ _ (c .if1 .taken) in
@@ -50,6 +53,7 @@ pub put-seven-spec : {M : Type 1} → statement M
 put-seven-spec =
     tie.close
     (tie.spec
+    cast-result
     returns
     slice-write-said
     slice-write-said-2

@@ -20,6 +20,9 @@ read-frame-requires c κs = search needs
 enum-known-read : tie.Need-enum-known-read
 enum-known-read c = search needs
 
+in-one-requires : tie.Need-in-one-requires
+in-one-requires c κs = search needs
+
 enum-known-read-2 : tie.Need-enum-known-read-2
 enum-known-read-2 c = search needs
 
@@ -65,7 +68,8 @@ put-seven-requires-3 c κs = search needs
 returns : tie.Need-returns
 unfolding readPaper
 returns c =
-    at-case (c .before .before .before .read-frame .result) (Refused (c .before .read .given .0 .0)) (c .before .read .given .1) (c .before .before .before .read-frame .ensures) (record { says = refl; leaves = refl })
+    let o = c .before .before in
+    at-case (o .before .before .read-frame .result) (Refused (o .read .given .0 .0)) (o .read .given .1) (o .before .before .read-frame .ensures) (record { says = c .in-one .ensures; leaves = refl })
 
 same-length : tie.Need-same-length
 same-length c = search needs
@@ -100,6 +104,7 @@ read-numbers-spec =
     (tie.spec
     read-frame-requires
     enum-known-read
+    in-one-requires
     enum-known-read-2
     cast-put-seven
     cast-put-seven-2

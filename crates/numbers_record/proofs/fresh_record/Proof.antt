@@ -1,11 +1,11 @@
 -- `numbers_record::fresh_record` meets its contract. Assumes nothing.
-use Rattle.numbers_record.proofs.RecordsKept.{no-room, refused-kept, taken-kept}
+use Rattle.numbers_record.proofs.RecordsKept.{no-room, refused-kept, taken-kept, number-of, no-number}
 use borrow.Author.Needs.{needs}
 use Rattle.numbers_record.proofs.fresh_record.Statement.{statement}
 use Rattle.numbers_record.proofs.fresh_record.Tie as tie
 
 returns : tie.Need-returns
-returns c = no-room _ _ _ (c .if1 .taken)
+returns c = no-room _ _ _ _ (c .if1 .taken)
 
 fresh-requires : tie.Need-fresh-requires
 fresh-requires c κs = search needs
@@ -32,7 +32,7 @@ returns-2 : tie.Need-returns-2
 returns-2 c =
     let f = c .before .before .before .before .before .before .before .before .before .before in
     let e = f .before .before .before .before in
-    refused-kept _ _ _ _ _ _ _ (e .if1 .left) (f .fresh .ensures) _ (c .before .answer .given .1)
+    refused-kept _ _ _ _ _ _ _ _ (e .if1 .left) (f .fresh .ensures) _ _ (c .before .answer .given .1) (number-of _)
 
 same-length-4 : tie.Need-same-length-4
 same-length-4 c = search needs
@@ -51,7 +51,7 @@ returns-3 c =
     let w = c .before .before .before .before in
     let f = w .before .before .before .before .before .before .before .before .before in
     let e = f .before .before .before .before in
-    taken-kept _ _ _ _ _ _ _ (e .if1 .left) (f .fresh .ensures) _ (w .enum-told .given .1) (c .before .before .put-head .ensures)
+    taken-kept _ _ _ _ _ _ _ _ (e .if1 .left) (f .fresh .ensures) _ (w .enum-told .given .1) no-number (c .before .before .put-head .ensures)
 
 pub fresh-record-spec : {M : Type 1} → statement M
 fresh-record-spec =

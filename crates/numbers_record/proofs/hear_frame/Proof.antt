@@ -1,11 +1,15 @@
 -- `numbers_record::hear_frame` meets its contract. Assumes nothing.
-use Rattle.numbers_record.proofs.RecordsKept.{no-room, refused-kept, taken-kept}
+use Rattle.numbers_record.proofs.RecordsKept.{no-room, refused-kept, taken-kept, answer-of, no-answer}
+use mathlib.Core.Path.{_∙_}
 use borrow.Author.Needs.{needs}
 use Rattle.numbers_record.proofs.hear_frame.Statement.{statement}
 use Rattle.numbers_record.proofs.hear_frame.Tie as tie
 
+cast-result : tie.Need-cast-result
+cast-result c = search needs
+
 returns : tie.Need-returns
-returns c = no-room _ _ _ (c .if1 .taken)
+returns c = no-room _ _ _ _ (c .if1 .taken)
 
 head-of-requires : tie.Need-head-of-requires
 head-of-requires c κs = search needs
@@ -18,6 +22,9 @@ enum-known-answer c = search needs
 
 enum-told : tie.Need-enum-told
 enum-told c = search needs
+
+in-one-requires : tie.Need-in-one-requires
+in-one-requires c κs = search needs
 
 put-head-requires : tie.Need-put-head-requires
 put-head-requires c κs = search needs
@@ -36,10 +43,10 @@ same-length-4 c = search needs
 
 returns-2 : tie.Need-returns-2
 returns-2 c =
-    let f = c .before .before .before .before .before .before .before .before .before .before in
+    let f = c .before .before .before .before .before .before .before .before .before .before .before in
     let o = f .before .before .before .before in
     let e = o .before .before in
-    refused-kept _ _ _ _ _ _ _ (e .if1 .left) (rw (o .head-of .ensures) at (f .hear .ensures)) _ (c .before .answer .given .1)
+    refused-kept _ _ _ _ _ _ _ _ (e .if1 .left) (rw (o .head-of .ensures) at (f .hear .ensures)) _ _ (c .before .before .answer .given .1) (c .in-one .ensures ∙ answer-of _)
 
 same-length-5 : tie.Need-same-length-5
 same-length-5 c = search needs
@@ -59,16 +66,18 @@ returns-3 c =
     let f = w .before .before .before .before .before .before .before .before .before in
     let o = f .before .before .before .before in
     let e = o .before .before in
-    taken-kept _ _ _ _ _ _ _ (e .if1 .left) (rw (o .head-of .ensures) at (f .hear .ensures)) _ (w .enum-told .given .1) (c .before .before .put-head .ensures)
+    taken-kept _ _ _ _ _ _ _ _ (e .if1 .left) (rw (o .head-of .ensures) at (f .hear .ensures)) _ (w .enum-told .given .1) no-answer (c .before .before .put-head .ensures)
 
 pub hear-frame-spec : {M : Type 1} → statement M
 hear-frame-spec =
     tie.close
     (tie.spec
+    cast-result
     returns
     head-of-requires
     hear-requires
     enum-known-answer
+    in-one-requires
     enum-told
     put-head-requires
     same-length

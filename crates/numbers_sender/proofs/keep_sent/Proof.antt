@@ -1,6 +1,7 @@
 -- `numbers_sender::keep_sent` meets its contract. Assumes nothing.
 use Rattle.numbers.proofs.InOne.{one-refused, one-done, done-few}
 use Rattle.numbers_sender.proofs.SendersKept.{sent-refused, sent-done}
+use mathlib.Core.Path.{_∙_}
 use native.Mathlib.Omega.{arith}
 use borrow.Author.Needs.{needs}
 use Rattle.numbers_sender.proofs.keep_sent.Statement.{statement}
@@ -9,8 +10,8 @@ use Rattle.numbers_sender.proofs.keep_sent.Tie as tie
 enum-known-answer : tie.Need-enum-known-answer
 enum-known-answer c = search needs
 
-cast-result : tie.Need-cast-result
-cast-result c = search needs
+in-one-requires : tie.Need-in-one-requires
+in-one-requires c κs = search needs
 
 enum-known-answer-2 : tie.Need-enum-known-answer-2
 enum-known-answer-2 c = search needs
@@ -24,7 +25,7 @@ mul-result c = omega (arith, done-few _ _ (c .before .before .before .before .be
 returns : tie.Need-returns
 returns c =
     let e = c .before .before .answer .given .1 in
-    (one-refused _ _ e, sent-refused _ _ _ _ e)
+    (c .in-one .ensures ∙ one-refused _ _ e, sent-refused _ _ _ _ e)
 
 same-length : tie.Need-same-length
 same-length c = search needs
@@ -39,7 +40,7 @@ keep-sent-spec =
     tie.close
     (tie.spec
     enum-known-answer
-    cast-result
+    in-one-requires
     enum-known-answer-2
     put-state-requires
     mul-result

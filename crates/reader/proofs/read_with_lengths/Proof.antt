@@ -11,6 +11,7 @@ use Rattle.frame.specs.declared.ClosingPdu.{ClosingPdu}
 use Rattle.frame.specs.Layout.{numberOf, filled, closingOf}
 use Rattle.frame.specs.Counts.{lengthsWrong}
 use Rattle.frame.specs.Reading.{readBody, payloadWrong}
+use Rattle.reader.proofs.ChecksCompared.{check-wrong, check-right}
 use native.Mathlib.Omega.{arith}
 use borrow.Author.Needs.{needs}
 use Rattle.reader.proofs.read_with_lengths.Statement.{statement}
@@ -66,51 +67,56 @@ returns-2 c =
     let h : 19 + filled (numberOf s) + 4 < length s = omega arith in
     simp (le-ltb _ _ l, lt-ltb _ _ h)
 
-sub-payload-wrong : tie.Need-sub-payload-wrong
-sub-payload-wrong c = search needs
+sub-payload-compared : tie.Need-sub-payload-compared
+sub-payload-compared c = search needs
 
-part-payload-wrong-start : tie.Need-part-payload-wrong-start
-part-payload-wrong-start c = search needs
+part-payload-compared-start : tie.Need-part-payload-compared-start
+part-payload-compared-start c = search needs
 
-part-payload-wrong-end : tie.Need-part-payload-wrong-end
-part-payload-wrong-end c = search needs
+part-payload-compared-end : tie.Need-part-payload-compared-end
+part-payload-compared-end c = search needs
 
-payload-wrong-requires : tie.Need-payload-wrong-requires
-payload-wrong-requires c κs = (omega arith, to-end 19 (now (c .before .before .before .before .before .before .args .frame)))
+payload-compared-requires : tie.Need-payload-compared-requires
+payload-compared-requires c κs = (omega arith, to-end 19 (now (c .before .before .before .before .before .before .args .frame)))
+
+check-refused-requires : tie.Need-check-refused-requires
+check-refused-requires c κs = search needs
 
 returns-3 : tie.Need-returns-3
 unfolding readBody
 returns-3 c =
-    let s = now (c .before .before .before .before .before .before .before .before .args .frame) in
-    let z = sized (c .before .before .before) in
-    let p : payloadWrong 17 s ≡ true = sym (c .before .payload-wrong .ensures) ∙ c .if3 .taken in
-    simp (le-ltb _ _ (z .0), le-ltb _ _ (z .1), p)
+    let t = c .before in
+    let s = now (t .before .before .before .before .before .before .before .before .before .args .frame) in
+    let z = sized (t .before .before .before .before) in
+    let e = t .before .before .payload-compared .ensures in
+    let p : payloadWrong 17 s ≡ true = check-wrong _ _ _ _ e (t .if3 .taken) in
+    c .check-refused .ensures ∙ simp (le-ltb _ _ (z .0), le-ltb _ _ (z .1), p, e .0, e .1)
 
 lengths-wrong-requires : tie.Need-lengths-wrong-requires
 lengths-wrong-requires c κs =
-    let s = now (c .before .before .before .before .before .before .before .before .args .frame) in
-    let z = sized (c .before .before .before) in
-    let n = count (c .before .before .before .before .before .before) in
-    let b : numberOf s < 65536 = be-lt s (λ i. (c .before .before .before .before .before .before .before .shared-slice-known .given i) .fits) 2 3 in
+    let s = now (c .before .before .before .before .before .before .before .before .before .args .frame) in
+    let z = sized (c .before .before .before .before) in
+    let n = count (c .before .before .before .before .before .before .before) in
+    let b : numberOf s < 65536 = be-lt s (λ i. (c .before .before .before .before .before .before .before .before .shared-slice-known .given i) .fits) 2 3 in
     record { few = omega arith; there = omega arith }
 
 returns-4 : tie.Need-returns-4
 unfolding readBody
 returns-4 c =
-    let s = now (c .before .before .before .before .before .before .before .before .before .before .args .frame) in
-    let z = sized (c .before .before .before .before .before) in
-    let p : payloadWrong 17 s ≡ false = sym (c .before .before .before .payload-wrong .ensures) ∙ c .before .before .if3 .left in
-    let w : lengthsWrong s (closingOf s) ≡ true = ap (lengthsWrong s) (sym (c .before .before .before .before .before .before .before .before .closing-of .ensures)) ∙ sym (c .before .lengths-wrong .ensures) ∙ c .if4 .taken in
+    let s = now (c .before .before .before .before .before .before .before .before .before .before .before .args .frame) in
+    let z = sized (c .before .before .before .before .before .before) in
+    let p : payloadWrong 17 s ≡ false = check-right _ _ _ _ (c .before .before .before .before .payload-compared .ensures) (c .before .before .if3 .left) in
+    let w : lengthsWrong s (closingOf s) ≡ true = ap (lengthsWrong s) (sym (c .before .before .before .before .before .before .before .before .before .closing-of .ensures)) ∙ sym (c .before .lengths-wrong .ensures) ∙ c .if4 .taken in
     simp (le-ltb _ _ (z .0), le-ltb _ _ (z .1), p, w)
 
 returns-5 : tie.Need-returns-5
 unfolding readBody
 returns-5 c =
-    let s = now (c .before .before .before .before .before .before .before .before .before .before .args .frame) in
-    let z = sized (c .before .before .before .before .before) in
-    let p : payloadWrong 17 s ≡ false = sym (c .before .before .before .payload-wrong .ensures) ∙ c .before .before .if3 .left in
-    let w : lengthsWrong s (closingOf s) ≡ false = ap (lengthsWrong s) (sym (c .before .before .before .before .before .before .before .before .closing-of .ensures)) ∙ sym (c .before .lengths-wrong .ensures) ∙ c .if4 .left in
-    simp (le-ltb _ _ (z .0), le-ltb _ _ (z .1), p, w, c .before .before .before .before .before .before .before .before .closing-of .ensures)
+    let s = now (c .before .before .before .before .before .before .before .before .before .before .before .args .frame) in
+    let z = sized (c .before .before .before .before .before .before) in
+    let p : payloadWrong 17 s ≡ false = check-right _ _ _ _ (c .before .before .before .before .payload-compared .ensures) (c .before .before .if3 .left) in
+    let w : lengthsWrong s (closingOf s) ≡ false = ap (lengthsWrong s) (sym (c .before .before .before .before .before .before .before .before .before .closing-of .ensures)) ∙ sym (c .before .lengths-wrong .ensures) ∙ c .if4 .left in
+    simp (le-ltb _ _ (z .0), le-ltb _ _ (z .1), p, w, c .before .before .before .before .before .before .before .before .before .closing-of .ensures)
 
 pub read-with-lengths-spec : {M : Type 1} → statement M
 read-with-lengths-spec =
@@ -125,10 +131,11 @@ read-with-lengths-spec =
     add-if2
     add-if2-2
     returns-2
-    sub-payload-wrong
-    part-payload-wrong-start
-    part-payload-wrong-end
-    payload-wrong-requires
+    sub-payload-compared
+    part-payload-compared-start
+    part-payload-compared-end
+    payload-compared-requires
+    check-refused-requires
     returns-3
     lengths-wrong-requires
     returns-4

@@ -5,9 +5,7 @@ use borrow.Author.Tests.{not-false}
 use denote.Ref.{now}
 use lib.ListN.{length}
 use Rattle.frame.specs.declared.Written.{Written}
-use Rattle.frame.specs.Paper.{writtenPaper}
 use Rattle.frame.proofs.OnePaper.{written-known}
-use Rattle.sender.specs.declared.Dispatch.{Dispatch}
 use Rattle.frame.specs.Writing.{after, lengthsFrame, writeLengths}
 use Rattle.sender.specs.State.{damaged, isOpen, closingBy}
 use Rattle.sender.specs.Calls.{closeWithCall}
@@ -60,9 +58,6 @@ at-rest-requires c κs = search needs
 enum-known-written-2 : tie.Need-enum-known-written-2
 enum-known-written-2 c = search needs
 
-send-refused-requires-3 : tie.Need-send-refused-requires-3
-send-refused-requires-3 c κs = search needs
-
 same-length : tie.Need-same-length
 same-length c = search needs
 
@@ -90,9 +85,8 @@ same-length-2 c = search needs
 
 returns-4 : tie.Need-returns-4
 returns-4 c =
-    let q = outcome (c .before .before .before .before) _ (c .before .before .written2 .given .1) in
-    let r = c .send-refused3 .ensures in
-    written (q .0) (ap (λ (x : Dispatch). writtenPaper (x .answer)) r) (ap (λ (x : Dispatch). x .sender) r) (q .1)
+    let q = outcome (c .before .before .before) _ (c .before .written2 .given .1) in
+    written (q .0) refl refl (q .1)
 
 pub closed-with-lengths-spec : {M : Type 1} → statement M
 closed-with-lengths-spec =
@@ -109,7 +103,6 @@ closed-with-lengths-spec =
     enum-known-written
     at-rest-requires
     enum-known-written-2
-    send-refused-requires-3
     same-length
     returns-3
     same-length-2

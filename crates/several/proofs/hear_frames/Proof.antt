@@ -6,16 +6,17 @@ use Rattle.reception.proofs.KeptAsHeld.{matched-lists}
 use Rattle.reception.proofs.WhatHearingAdds.{sound-lists}
 use Rattle.several.proofs.HeardSoFar.{HeardSoFar, none-yet, one-more-at, all-heard}
 use Rattle.several.proofs.PartOfRow.{part-is}
+use native.Mathlib.Omega.{arith}
 use borrow.Author.Needs.{needs}
 use Rattle.several.proofs.hear_frames.Statement.{statement}
 use Rattle.several.proofs.hear_frames.Tie as tie
 
 abbrev Inv-loop : tie.InvT-loop
-Inv-loop bearer period marks₀ elapsed₀ sizes₀ octets ends numbers₀ head₀ span₀ from₀ i₀ marks elapsed sizes numbers head span from i =
-    HeardSoFar bearer period octets ends (keptIn head₀ marks₀ elapsed₀ sizes₀) numbers₀ head marks elapsed sizes numbers (span .first) (span .end) from i
+Inv-loop bearer period marks₀ elapsed₀ sizes₀ octets ends answers₀ head₀ span₀ from₀ i₀ marks elapsed sizes answers head span from i =
+    HeardSoFar bearer period octets ends (keptIn head₀ marks₀ elapsed₀ sizes₀) answers₀ head marks elapsed sizes answers (span .first) (span .end) from i
 
 abbrev μ-loop : tie.MeasureT-loop
-μ-loop bearer period marks₀ elapsed₀ sizes₀ octets ends numbers₀ head₀ span₀ from₀ i₀ marks elapsed sizes numbers head span from i =
+μ-loop bearer period marks₀ elapsed₀ sizes₀ octets ends answers₀ head₀ span₀ from₀ i₀ marks elapsed sizes answers head span from i =
     length ends - i
 
 empty-span-requires : tie.Need-empty-span-requires Inv-loop μ-loop
@@ -59,11 +60,17 @@ hear-next-requires c κs =
     let g = c .before .before .before .before .before .before .before .before .before .loop .inv in
     (sound-lists _ (g .sound), (g .before, (g .from-end, g .sound .undamaged)))
 
-number-of-requires : tie.Need-number-of-requires Inv-loop μ-loop
-number-of-requires c κs = search needs
+answer-of-requires : tie.Need-answer-of-requires Inv-loop μ-loop
+answer-of-requires c κs = search needs
 
-slice-write-numbers : tie.Need-slice-write-numbers Inv-loop μ-loop
-slice-write-numbers c = search needs
+mul-answers : tie.Need-mul-answers Inv-loop μ-loop
+mul-answers c =
+    let l = c .before .before .before .before .before .before .before .before .before .before .before .before .before .before .before .before in
+    let few = l .before .before .before .before .before .before .before .before .before .good .1 .1 .1 .1 .1 .1 .1 .0 in
+    omega (arith, few, l .loop-test .taken)
+
+slice-write-answers : tie.Need-slice-write-answers Inv-loop μ-loop
+slice-write-answers c = search needs
 
 loop-less : tie.Need-loop-less Inv-loop μ-loop
 loop-less c = search needs
@@ -76,7 +83,7 @@ loop-again c =
     let b = e .before in
     let o = b .before in
     let t = o .before .before in
-    one-more-at _ _ _ _ _ _ _ _ _ _ _ _ _ _ _ (t .before .loop .inv) (t .loop-test .taken) _ (o .place-of .ensures) _ (part-is _ _ _ _ _ (b .lower .ensures) (e .end-in .ensures .2)) _ _ _ _ (h .hear-next .ensures) _ (n .number-of .ensures) (h .hear-next .kept .1 .1 .0) (h .hear-next .kept .1 .1 .1 .0) (h .hear-next .kept .1 .1 .1 .1 .0)
+    one-more-at _ _ _ _ _ _ _ _ _ _ _ _ _ _ _ (t .before .loop .inv) (t .loop-test .taken) _ (o .place-of .ensures) _ (part-is _ _ _ _ _ (b .lower .ensures) (e .end-in .ensures .2)) _ _ _ _ (h .hear-next .ensures) _ (n .answer-of .ensures) (h .hear-next .kept .1 .1 .0) (h .hear-next .kept .1 .1 .1 .0) (h .hear-next .kept .1 .1 .1 .1 .0)
 
 same-length : tie.Need-same-length Inv-loop μ-loop
 same-length c = c .before .loop .inv .marks-long
@@ -88,7 +95,7 @@ same-length-3 : tie.Need-same-length-3 Inv-loop μ-loop
 same-length-3 c = c .before .loop .inv .sizes-long
 
 same-length-4 : tie.Need-same-length-4 Inv-loop μ-loop
-same-length-4 c = c .before .loop .inv .numbers-long
+same-length-4 c = c .before .loop .inv .answers-long
 
 returns : tie.Need-returns Inv-loop μ-loop
 returns c = all-heard _ _ _ _ _ _ _ _ _ _ _ _ _ _ _ (c .before .loop .inv) (c .loop-test .left)
@@ -111,8 +118,9 @@ hear-frames-spec =
     part-part-start
     part-part-end
     hear-next-requires
-    number-of-requires
-    slice-write-numbers
+    answer-of-requires
+    mul-answers
+    slice-write-answers
     loop-less
     loop-again
     same-length

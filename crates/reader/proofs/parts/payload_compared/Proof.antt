@@ -1,5 +1,6 @@
--- `reader::parts::payload_wrong` meets its contract: ten bits of two octets. Assumes nothing.
+-- `reader::parts::payload_compared` meets its contract: ten bits of two octets. Assumes nothing.
 use Prim.Native.Nat.{_+_}
+use mathlib.Core.Path.{_∙_}
 use lib.Bits.{mask-lt}
 use lib.ListN.{getD}
 use denote.Ref.{now}
@@ -7,8 +8,8 @@ use Rattle.fields.proofs.ReadAgain.{be-two}
 use Rattle.fields.proofs.ShiftsAndMasks.{low-bits}
 use native.Mathlib.Omega.{arith}
 use borrow.Author.Needs.{needs}
-use Rattle.reader.proofs.parts.payload_wrong.Statement.{statement}
-use Rattle.reader.proofs.parts.payload_wrong.Tie as tie
+use Rattle.reader.proofs.parts.payload_compared.Statement.{statement}
+use Rattle.reader.proofs.parts.payload_compared.Tie as tie
 
 shared-slice-read-given : tie.Need-shared-slice-read-given
 shared-slice-read-given c = search needs
@@ -34,10 +35,10 @@ returns c =
     let s = now (a .frame) in
     let o = c .before .shared-slice-known4 .given (a .n + 1) in
     let v = low-bits 16 2 (getD s (a .n) 0) (getD s (a .n + 1) 0) (omega arith) (omega (arith, o)) in
-    rw (c .payload-check .ensures, c .before .before .before .before .before .pre .1, v, be-two s (a .n))
+    (v ∙ rw (be-two s (a .n)), rw (c .payload-check .ensures, c .before .before .before .before .before .pre .1))
 
-pub payload-wrong-spec : {M : Type 1} → statement M
-payload-wrong-spec =
+pub payload-compared-spec : {M : Type 1} → statement M
+payload-compared-spec =
     tie.close
     (tie.spec
     shared-slice-read-given

@@ -1,0 +1,70 @@
+-- Every call that reads a frame tells of its checks, many frames at once too. Assumes nothing.
+use Prim.Native.Nat.{ℕ}
+use native.Mathlib.Omega.{arith}
+use mathlib.Core.Path.{_≡_, refl, sym, ap, subst, _∙_}
+use mathlib.Core.List.{List, [], _∷_, _++_, map}
+use lib.Dec.{ltb}
+use lib.ListN.{length, drop}
+use Rattle.fields.specs.Runs.{front}
+use Rattle.fields.proofs.Choosing.{whichever}
+use Rattle.frame.specs.declared.Read.{Read}
+use Rattle.frame.specs.declared.Read.the-variants.{Closing, Data, ClosingWithLengths, Refused as NotRead}
+use Rattle.frame.specs.declared.Listed.{Listed}
+use Rattle.frame.specs.Listing.{listLengths}
+use Rattle.frame.specs.Paper.{CountPaper, listedPaper}
+use Rattle.frame.specs.Reading.{readFrame}
+use Rattle.frame.proofs.ChecksTold.{zeros-told, refusal-told}
+use Rattle.reader.specs.Lists.{Lists}
+use Rattle.reception.specs.declared.Taken.{Taken}
+use Rattle.reception.specs.declared.Taken.the-variants.{Done, Refused}
+use Rattle.reception.specs.declared.Taking.{Taking}
+use Rattle.reception.specs.Hearing.{Kept, emptyKept, hearFrame, takenPaper, Takes}
+use Rattle.reception.specs.Several.{answerOf, answersTo, answersAfter, hearSequence}
+use Rattle.reception.proofs.HeardTold.{heard-checks}
+use Rattle.several.specs.Rest.{HearsSequence}
+use Rattle.demands.specs.Demand1.{TellsOf, EachTold}
+use Rattle.demands.specs.Demand1.EachTold.{none, told}
+use Rattle.demands.proofs.Refusals.{accepted-of, no-zero}
+use Rattle.demands.proofs.RecordRefusals.{hear-leaves}
+
+-- lengths
+listing-tells : (s : List ℕ) (x : Read) → readFrame s ≡ x → (room : ℕ) → TellsOf s (listedPaper (listLengths x room))
+unfolding listLengths listedPaper
+listing-tells s (NotRead r) e room = refusal-told s r e
+listing-tells s (Closing c) e room = zeros-told s 0 refl refl
+listing-tells s (Data d) e room = zeros-told s 0 refl refl
+listing-tells s (ClosingWithLengths c) e room =
+    whichever (λ (a : Listed). TellsOf s (listedPaper a)) _ _ (ltb room (c .number .0)) (zeros-told s 12 refl refl) (λ _. zeros-told s 0 refl refl)
+
+pub lists-tell : (s old : List ℕ) (r : Listed) (new : List ℕ) → Lists s old r new → TellsOf s (listedPaper r)
+lists-tell s old r new w = subst (TellsOf s) (sym (w .says)) (listing-tells s (readFrame s) refl (length old))
+
+-- a frame heard
+pub takes-tell : (k : Kept) (bearer period : ℕ) (f : List ℕ) (r : Taking) (m e s : List ℕ) → Takes (hearFrame k bearer period f) r m e s
+    → TellsOf f (takenPaper (r .answer))
+takes-tell k bearer period f r m e s w = subst (TellsOf f) (sym (w .says)) (heard-checks k bearer period f)
+
+-- many frames heard
+all-tell : (k : Kept) (bearer period : ℕ) (frames : List (List ℕ)) (rest : List ℕ) → EachTold frames (map answerOf (answersTo k bearer period frames) ++ rest)
+unfolding answersTo
+all-tell k bearer period [] rest = none
+all-tell k bearer period (f ∷ fs) rest =
+    let o = hearFrame k bearer period f in
+    told (o .answer) (hear-leaves k bearer period f .0) (heard-checks k bearer period f) (all-tell (o .kept) bearer period fs rest)
+
+in-front : (a : Taken) (ts : List Taken) (old : List ℕ) → takenPaper a .accepted ≡ 1 → answersAfter a ts old ≡ front old (map answerOf ts)
+unfolding takenPaper
+in-front Done ts old e = refl
+in-front (Refused r) ts old e = no-zero (sym e)
+
+pub each-tells : (bearer period stamp : ℕ) (old : Kept) (frames : List (List ℕ)) (answers : List ℕ) (r : Taking) (m e s new : List ℕ)
+    → HearsSequence (hearSequence bearer period stamp old frames (length answers))
+    (answersTo (emptyKept bearer period stamp (length (old .marks))) bearer period frames) answers r m e s new
+    → takenPaper (r .answer) .accepted ≡ 1 → EachTold frames new
+unfolding front
+each-tells bearer period stamp old frames answers r m e s new w z =
+    let k = emptyKept bearer period stamp (length (old .marks)) in
+    let ts = answersTo k bearer period frames in
+    let a = hearSequence bearer period stamp old frames (length answers) .answer in
+    let l : new ≡ map answerOf ts ++ drop (length (map answerOf ts)) answers = w .answers ∙ in-front a ts answers (sym (ap accepted-of (w .taken .says)) ∙ z) in
+    subst (EachTold frames) (sym l) (all-tell k bearer period frames _)

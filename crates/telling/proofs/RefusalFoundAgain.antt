@@ -1,0 +1,35 @@
+-- A refusal is found again from its line: its place, its number, and both checks of 4 and 7. Assumes nothing.
+use Prim.Native.Nat.{ℕ, _<_, _^_}
+use mathlib.Core.Path.{_≡_, refl}
+use mathlib.Core.Bool.{Bool, true, false}
+use mathlib.Core.List.{List, [], _∷_}
+use native.Mathlib.Omega.{arith}
+use Rattle.units.specs.declared.Refusal.{Refusal}
+use Rattle.units.specs.Refusals.{tellsChecks}
+use Rattle.fields.specs.Choice.{_when_otherwise_}
+use Rattle.lines.proofs.FoundAgain.{Narrow, none, more, line-found}
+use Rattle.telling.specs.Account.{checksOf, refusedLine}
+
+-- a refusal whose numbers have the widths that the code gives them
+pub record Fits (r : Refusal) : Type 0 where
+  pub number : r .number < 256
+  pub found : r .found < 65536
+  pub worked : r .«worked_out» < 65536
+
+numbers-narrow : (place : ℕ) (r : Refusal) → place < 2 ^ 64 → Fits r → Narrow (place ∷ r .number ∷ checksOf r)
+numbers-narrow place r p f =
+    let n : r .number < 2 ^ 64 = omega (arith, f .number) in
+    more _ _ p (more _ _ n (checks-narrow (tellsChecks (r .number))))
+  where
+    checks-narrow : (t : Bool) → Narrow ((r .found ∷ r .«worked_out» ∷ []) when t otherwise [])
+    checks-narrow true =
+        let a : r .found < 2 ^ 64 = omega (arith, f .found) in
+        let b : r .«worked_out» < 2 ^ 64 = omega (arith, f .worked) in
+        more _ _ a (more _ _ b none)
+    checks-narrow false = none
+
+pub refused-found : (place place′ : ℕ) (r x : Refusal) → place < 2 ^ 64 → place′ < 2 ^ 64 → Fits r → Fits x → refusedLine place r ≡ refusedLine place′ x
+    → (place ≡ place′) × (r .number ≡ x .number) × (checksOf r ≡ checksOf x)
+refused-found place place′ r x p q f g e =
+    let l = line-found _ _ _ (numbers-narrow place r p f) (numbers-narrow place′ x q g) e in
+    (cc, cc, cc)

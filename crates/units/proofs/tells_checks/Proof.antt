@@ -1,0 +1,13 @@
+-- `units::tells_checks` meets its contract. Assumes nothing.
+use borrow.Author.Tests.{eq-eqb, ne-eqb}
+use Rattle.units.proofs.tells_checks.Statement.{statement}
+use Rattle.units.proofs.tells_checks.Tie as tie
+
+returns : tie.Need-returns
+returns c = simp (eq-eqb _ _ (c .if1 .taken))
+
+returns-2 : tie.Need-returns-2
+returns-2 c = simp (ne-eqb _ _ (c .if1 .left))
+
+pub tells-checks-spec : {M : Type 1} → statement M
+tells-checks-spec = tie.close (tie.spec returns returns-2)
