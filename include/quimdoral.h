@@ -20,9 +20,11 @@
  * eight bits are the refusal's number, or 0, and the bits above are the value, or 0. QUIMDORAL_REFUSAL and QUIMDORAL_VALUE take them apart.
  *
  * Where reading or hearing refuses a frame with 4 or 7, the value has both checks: the one found in the frame, and the one worked out over
- * the octets that it covers. QUIMDORAL_FOUND and QUIMDORAL_WORKED_OUT take them out. They differ, and either may be 0. They tell a maker's
- * wrong polynomial from a noisy link: a wrong polynomial gives the same difference for the same octets every time, noise does not. With any
- * other refusal of these functions both are 0. So compare QUIMDORAL_REFUSAL of such an answer with a refusal's number, not the answer itself.
+ * the octets that it covers. QUIMDORAL_FOUND and QUIMDORAL_WORKED_OUT take them out. They differ, and either may be 0. Over several frames
+ * they tell a maker's wrong polynomial from a noisy link: a wrong polynomial gives the same difference for the same octets every time, noise
+ * does not. Ask QUIMDORAL_REFUSAL first: with 4 and 7 alone the value is made of checks; with any other refusal of these functions it is 0,
+ * and where quimdoral_read_lengths accepts it is a count. Keep such an answer in a uint64_t, since fewer bits cut the check worked out; and
+ * compare QUIMDORAL_REFUSAL of it with a refusal's number, not the answer itself.
  *
  * Packets and octets are counted apart: no number here is a sum of both.
  */
@@ -41,8 +43,8 @@ extern "C" {
 #define QUIMDORAL_VALUE(answer) ((uint64_t)(answer) >> 8)
 
 /* The two parts of the value with refusals 4 and 7 of reading and hearing: the check found in the frame, and the check worked out. */
-#define QUIMDORAL_FOUND(answer) ((unsigned)(((answer) >> 8) & 65535u))
-#define QUIMDORAL_WORKED_OUT(answer) ((unsigned)(((answer) >> 24) & 65535u))
+#define QUIMDORAL_FOUND(answer) ((unsigned)((uint64_t)(answer) >> 8 & 65535u))
+#define QUIMDORAL_WORKED_OUT(answer) ((unsigned)((uint64_t)(answer) >> 24 & 65535u))
 
 /*
  * Slices of nothing. Many callers in C give NULL and 0 where they have nothing; here that is an error, which no test in the library could

@@ -89,7 +89,7 @@ pub fn hear(lists: Lists, bearer: u32, period: u32, frame: &[u8]) -> Result<(), 
 /// Makes the lists an empty record and takes many frames into it, which is quicker than a call for each. Refusals of the whole, in this
 /// order: 14, 5, 12 (fewer places in `answers` than in `ends`).
 ///
-/// The frames stand in one row of octets. Frame `i` ends before `ends[i]`, and `answers[i]` gets 0 or the answer of its refusal, which
+/// The frames stand in one row of octets. Frame `i` ends before `ends[i]`, and `answers[i]` gets 0, or its refusal in one number, which
 /// [`ReadRefusal::from_answer`] takes apart. An end beyond the octets is taken as theirs, and one before the frame's begin gives an empty
 /// frame.
 ///

@@ -190,8 +190,8 @@ impl From<JoinRefusal> for Refusal {
 
 /// The check found in a frame, and the check worked out over the octets that it covers. The two differ, and either may be 0.
 ///
-/// They tell a maker's wrong polynomial from a noisy link: a wrong polynomial gives the same difference for the same octets every time,
-/// noise does not.
+/// Over several frames they tell a maker's wrong polynomial from a noisy link: a wrong polynomial gives the same difference for the same
+/// octets every time, noise does not.
 #[derive(Clone, Copy, Debug, PartialEq, Eq, Hash)]
 pub struct Checks {
     /// What stands in the frame: six bits of a header check, ten of a payload check.
@@ -200,7 +200,8 @@ pub struct Checks {
     pub worked_out: u16,
 }
 
-/// Why a frame was not read or heard. A wrong check comes with the check found and the check worked out.
+/// Why a frame was not read or heard. A wrong check comes with the check found and the check worked out. Turned into a [`Refusal`], by `?`
+/// too, it loses them.
 ///
 /// ```
 /// use quimdoral::{Checks, ReadRefusal, Refusal, frames};
@@ -223,7 +224,7 @@ pub enum ReadRefusal {
 impl ReadRefusal {
     /// The refusal of an answer that [`lent::hear_all`](crate::lent::hear_all) wrote: its lowest eight bits are the refusal's number, and
     /// with 4 and 7 the sixteen bits above have the check found and the next sixteen the check worked out. Nothing where the answer is 0,
-    /// or has another form.
+    /// which accepts the frame, or has a form that the library does not write; whether the two checks differ is not asked.
     ///
     /// ```
     /// use quimdoral::{Checks, ReadRefusal, Refusal};

@@ -6,7 +6,7 @@ use Rattle.clock.specs.declared.Moment.the-variants.{Stamp, Refused as N
 use Rattle.clock.specs.declared.DueTime.{DueTime}
 use Rattle.clock.specs.declared.DueTime.the-variants.{At, Refused as NotDue}
 
--- of a moment's stamp: the refusal's number, or 0; 1 where accepted; and the stamp
+-- of a moment's stamp: the refusal's number and both checks, or zeros; 1 where accepted; and the stamp
 pub record MomentPaper : Type 0 where
   pub number : ℕ
   pub found : ℕ
@@ -19,7 +19,7 @@ unfoldable pub momentPaper : Moment → MomentPaper
 momentPaper (Stamp n) = record { number = 0; found = 0; worked = 0; accepted = 1; stamp = n }
 momentPaper (NoStamp r) = record { number = r .number; found = r .found; worked = r .«worked_out»; accepted = 0; stamp = 0 }
 
--- of when a frame is due: the refusal's number, or 0; 1 where accepted; and the tick
+-- of when a frame is due: the refusal's number and both checks, or zeros; 1 where accepted; and the tick
 pub record DuePaper : Type 0 where
   pub number : ℕ
   pub found : ℕ

@@ -1,28 +1,33 @@
 -- Every call that reads a frame tells of its checks, many frames at once too. Assumes nothing.
 use Prim.Native.Nat.{ℕ}
-use native.Mathlib.Omega.{arith}
 use mathlib.Core.Path.{_≡_, refl, sym, ap, subst, _∙_}
+use mathlib.Core.Bool.{false}
 use mathlib.Core.List.{List, [], _∷_, _++_, map}
 use lib.Dec.{ltb}
 use lib.ListN.{length, drop}
+use Rattle.units.specs.declared.Refusal.{Refusal}
 use Rattle.fields.specs.Runs.{front}
 use Rattle.fields.proofs.Choosing.{whichever}
 use Rattle.frame.specs.declared.Read.{Read}
 use Rattle.frame.specs.declared.Read.the-variants.{Closing, Data, ClosingWithLengths, Refused as NotRead}
 use Rattle.frame.specs.declared.Listed.{Listed}
+use Rattle.frame.specs.declared.Listed.the-variants.{Refused as NotListed}
 use Rattle.frame.specs.Listing.{listLengths}
-use Rattle.frame.specs.Paper.{CountPaper, listedPaper}
+use Rattle.frame.specs.Paper.{listedPaper}
 use Rattle.frame.specs.Reading.{readFrame}
+use Rattle.frame.specs.WrongChecks.{TellsOf}
 use Rattle.frame.proofs.ChecksTold.{zeros-told, refusal-told}
+use Rattle.frame.proofs.OnePaper.{listed-known}
 use Rattle.reader.specs.Lists.{Lists}
 use Rattle.reception.specs.declared.Taken.{Taken}
 use Rattle.reception.specs.declared.Taken.the-variants.{Done, Refused}
 use Rattle.reception.specs.declared.Taking.{Taking}
-use Rattle.reception.specs.Hearing.{Kept, emptyKept, hearFrame, takenPaper, Takes}
+use Rattle.reception.specs.Hearing.{Kept, Outcome, unmatched, emptyKept, hearFrame, takenPaper, Takes}
 use Rattle.reception.specs.Several.{answerOf, answersTo, answersAfter, hearSequence}
-use Rattle.reception.proofs.HeardTold.{heard-checks}
+use Rattle.reception.proofs.HeardTold.{handed-on, heard-checks}
+use Rattle.reception.proofs.OnePaper.{taken-known}
 use Rattle.several.specs.Rest.{HearsSequence}
-use Rattle.demands.specs.Demand1.{TellsOf, EachTold}
+use Rattle.demands.specs.Demand1.{EachTold}
 use Rattle.demands.specs.Demand1.EachTold.{none, told}
 use Rattle.demands.proofs.Refusals.{accepted-of, no-zero}
 use Rattle.demands.proofs.RecordRefusals.{hear-leaves}
@@ -31,18 +36,26 @@ use Rattle.demands.proofs.RecordRefusals.{hear-leaves}
 listing-tells : (s : List ℕ) (x : Read) → readFrame s ≡ x → (room : ℕ) → TellsOf s (listedPaper (listLengths x room))
 unfolding listLengths listedPaper
 listing-tells s (NotRead r) e room = refusal-told s r e
-listing-tells s (Closing c) e room = zeros-told s 0 refl refl
-listing-tells s (Data d) e room = zeros-told s 0 refl refl
+listing-tells s (Closing c) e room = zeros-told s 0 refl
+listing-tells s (Data d) e room = zeros-told s 0 refl
 listing-tells s (ClosingWithLengths c) e room =
-    whichever (λ (a : Listed). TellsOf s (listedPaper a)) _ _ (ltb room (c .number .0)) (zeros-told s 12 refl refl) (λ _. zeros-told s 0 refl refl)
+    whichever (λ (a : Listed). TellsOf s (listedPaper a)) _ _ (ltb room (c .number .0)) (zeros-told s 12 refl) (λ _. zeros-told s 0 refl)
 
 pub lists-tell : (s old : List ℕ) (r : Listed) (new : List ℕ) → Lists s old r new → TellsOf s (listedPaper r)
 lists-tell s old r new w = subst (TellsOf s) (sym (w .says)) (listing-tells s (readFrame s) refl (length old))
+
+pub lists-hand-on : (s old : List ℕ) (r : Listed) (new : List ℕ) → Lists s old r new → (q : Refusal) → readFrame s ≡ NotRead q → r ≡ NotListed q
+unfolding listLengths
+lists-hand-on s old r new w q e = listed-known r _ (w .says) ∙ rw e refl
 
 -- a frame heard
 pub takes-tell : (k : Kept) (bearer period : ℕ) (f : List ℕ) (r : Taking) (m e s : List ℕ) → Takes (hearFrame k bearer period f) r m e s
     → TellsOf f (takenPaper (r .answer))
 takes-tell k bearer period f r m e s w = subst (TellsOf f) (sym (w .says)) (heard-checks k bearer period f)
+
+pub takes-hand-on : (k : Kept) (bearer period : ℕ) (f : List ℕ) (r : Taking) (m e s : List ℕ) → Takes (hearFrame k bearer period f) r m e s
+    → unmatched k ≡ false → (q : Refusal) → readFrame f ≡ NotRead q → r .answer ≡ Refused q
+takes-hand-on k bearer period f r m e s w u q p = taken-known (r .answer) _ (w .says) ∙ ap (λ (o : Outcome). o .answer) (handed-on k bearer period f q u p)
 
 -- many frames heard
 all-tell : (k : Kept) (bearer period : ℕ) (frames : List (List ℕ)) (rest : List ℕ) → EachTold frames (map answerOf (answersTo k bearer period frames) ++ rest)

@@ -5,9 +5,10 @@ use mathlib.Core.Path.{_≡_, refl, sym, ap, subst, _∙_}
 use mathlib.Core.Bool.{false}
 use mathlib.Core.Logic.{_↔_}
 use mathlib.Core.List.{List, map}
-use Rattle.units.specs.Refusals.{refusing, contradiction}
+use Rattle.units.specs.Refusals.{refusing, contradiction, tellsChecks}
 use Rattle.fields.specs.Runs.{front}
 use Rattle.frame.specs.Paper.{CountPaper}
+use Rattle.frame.specs.WrongChecks.{TellsOf}
 use Rattle.frame.proofs.ChecksTold.{no-checks}
 use Rattle.reception.specs.declared.Joined.{Joined}
 use Rattle.reception.specs.declared.Joined.the-variants.{Done as JoinDone, Contradicted as NamesOne, Refused as NotJoined}
@@ -33,7 +34,6 @@ use Rattle.reception.proofs.OnePaper.{reported-known}
 use Rattle.reception.proofs.ReportSaid.{report-done, closed-said, said-gaps}
 use Rattle.reception.proofs.WhatHearingAdds.{Sound, owned-key, packet-heard, closing-heard}
 use Rattle.reception.proofs.WhatJoiningAdds.{holds-either}
-use Rattle.demands.specs.Demand1.{TellsOf}
 use Rattle.demands.specs.Demand3.{Proper, OneSequence, HeardAs, WasTaken, Contradicted, OwnKey, JoinedAs, Accepted, emptyLike, Demand3}
 
 -- a proper record is one to which neither 14 nor 13 applies
@@ -71,7 +71,7 @@ taken-contradicts : (f : List ℕ) (a : Taken) → TellsOf f (takenPaper a) → 
 unfolding takenPaper
 taken-contradicts f TakenDone t e = absurd (omega (arith, e))
 taken-contradicts f (NotTaken r) t e =
-    let z = t .neither (λ h. omega (arith, e, h)) (λ h. omega (arith, e, h)) in
+    let z = t .neither (ap tellsChecks e) in
     ap NotTaken (no-checks (r .number) (r .found) (r .«worked_out») z) ∙ ap (λ (n : ℕ). NotTaken (refusing n)) e
 
 -- what was refused with 11

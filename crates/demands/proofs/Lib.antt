@@ -1,5 +1,6 @@
 pub mod AcceptedAgain
 pub mod ChecksAnswered
+pub mod ChecksExported
 pub mod EachFixed
 pub mod ExportedFixed
 pub mod HeardJoinedReported

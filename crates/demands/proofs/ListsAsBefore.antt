@@ -31,7 +31,8 @@ use Rattle.reception.specs.declared.Taken.the-variants.{Done as TakenDone, Refu
 use Rattle.reception.specs.Hearing.{Kept, Outcome, takenPaper}
 use Rattle.reception.specs.Joining.{JoinOutcome, joinedPaper}
 use Rattle.reception.specs.Reporting.{Gap, gapsAfter, reportRecord, roomOf}
-use Rattle.reception.specs.Several.{numberOf, answerOf}
+use Rattle.reception.specs.Several.{refusalNumber, answerOf}
+use Rattle.reception.proofs.AnswersTold.{no-number, no-answer}
 use Rattle.numbers.specs.Answers.{inOne}
 use Rattle.numbers_frames.specs.Reading.{ReadOut}
 use Rattle.numbers_sender.specs.Senders.{turnedState, sentState}
@@ -40,7 +41,7 @@ use Rattle.numbers_join.specs.Joins.{joinNumber, joinedHeadAfter, KeepsJoined}
 use Rattle.numbers_report.specs.Reports.{figuresOf, reportNumber, figuresAfter, gapsOut}
 use Rattle.demands.specs.ExportedRefusals.{Refusing, RefusingInOne, SameRecord, RefusedExported}
 use Rattle.demands.proofs.Refusals.{no-zero}
-use Rattle.demands.proofs.RecordRefusals.{fresh-leaves, hear-leaves, many-leaves, none-told, join-leaves}
+use Rattle.demands.proofs.RecordRefusals.{fresh-leaves, hear-leaves, many-leaves, none-answered, join-leaves}
 
 -- an answer and a list that follow one test: as it was on the one side, so only the other is left
 beyond : (t : Bool) (n m r : ℕ) (old x new : List ℕ) → r ≡ (n when t otherwise m) → new ≡ (old when t otherwise x) → (r ≡ m → x ≡ old) → new ≡ old
@@ -72,15 +73,6 @@ not-taken : (told : Taken → ℕ) → told TakenDone ≡ 0 → (a : Taken) → 
 unfolding takenPaper
 not-taken told z TakenDone h = absurd (h z)
 not-taken told z (NotTaken r) h = refl
-
--- what is told where nothing is refused
-no-number : numberOf TakenDone ≡ 0
-unfolding takenPaper
-no-number = refl
-
-no-answer : answerOf TakenDone ≡ 0
-unfolding takenPaper
-no-answer = refl
 
 head-stays : (a : Taken) (old : List ℕ) (h : Head) → takenPaper a .accepted ≡ 0 → headAfter a old h ≡ old
 unfolding takenPaper
@@ -162,12 +154,12 @@ refused-exported =
         beyond (ltb (length old) 6) _ _ r old _ new (w .says) (w .leaves-state) (λ q. state-stays (t .answer) old (t .sender) (subst RefusingInOne q h)),
         beyond (ltb (length old) 6) _ _ r out _ out′ (w .says) (w .leaves-out) (λ q. frame-stays (t .answer) frame out (subst RefusingInOne q h)),
       );
-      fresh = λ bearer period stamp old m e s r new m′ e′ s′ w h. keeps-stay numberOf no-number old _ _ r new m′ e′ s′ (fresh-leaves bearer period stamp m e s .1) w h;
+      fresh = λ bearer period stamp old m e s r new m′ e′ s′ w h. keeps-stay refusalNumber no-number old _ _ r new m′ e′ s′ (fresh-leaves bearer period stamp m e s .1) w h;
       hear = λ bearer period f old m e s r new m′ e′ s′ w h. keeps-stay answerOf no-answer old _ _ r new m′ e′ s′ (hear-leaves _ bearer period f .1) w h;
       hear-all = λ bearer period stamp frames ts old m e s answers r new m′ e′ s′ answers′ w v h. (
-        keeps-stay numberOf no-number old _ _ r new m′ e′ s′ (many-leaves bearer period stamp _ frames (length answers) .1) w h,
+        keeps-stay refusalNumber no-number old _ _ r new m′ e′ s′ (many-leaves bearer period stamp _ frames (length answers) .1) w h,
         beyond (ltb (length old) 6) _ _ r answers _ answers′ (w .says) (v .leaves-answers)
-            (λ q. none-told _ ts answers (not-taken numberOf no-number _ (subst Refusing q h))),
+            (λ q. none-answered _ ts answers (not-taken refusalNumber no-number _ (subst Refusing q h))),
       );
       join = λ a b old other r new m′ e′ s′ w h. joined-stay old other a _ r new m′ e′ s′ (join-leaves a b .1) w h;
       report = λ head k firsts counts octets figures r f′ c′ o′ figures′ w h.

@@ -3,7 +3,7 @@ use lib.ListN.{length}
 use Rattle.sender.proofs.RefusedOrAccepted.{open-keeps, renew-keeps, data-keeps, close-keeps, close-with-keeps}
 use Rattle.frame.proofs.ChecksTold.{read-told}
 use Rattle.demands.specs.Demand1.{Demand1}
-use Rattle.demands.proofs.ChecksAnswered.{lists-tell, takes-tell, each-tells}
+use Rattle.demands.proofs.ChecksAnswered.{lists-tell, lists-hand-on, takes-tell, takes-hand-on, each-tells}
 use Rattle.demands.proofs.Refusals.{read-carries, lists-carry, writes, data-carries, closing-carries, lengths-carry, moment-carries, due-carries}
 use Rattle.demands.proofs.SenderRefusals.{turns-carry, open-carries, renew-carries, sends-carry, sent-carries, closed-carries, closed-with-carries}
 use Rattle.demands.proofs.RecordRefusals.{takes-leaves, fresh-leaves, hear-leaves, many-carry, joins-leaves, join-leaves, reports-carry}
@@ -29,7 +29,9 @@ demand-1 =
       hearing-many = many-carry;
       reading-tells = λ s r e. rw e (read-told s);
       lengths-tell = lists-tell;
+      lengths-hand-on = lists-hand-on;
       hearing-tells = takes-tell;
+      hearing-hands-on = takes-hand-on;
       each-told = each-tells;
       joining = λ a b r m e s w. joins-leaves a _ r m e s (join-leaves a b) w;
       reporting = reports-carry;

@@ -1,17 +1,14 @@
 -- Demand 1 of records: a refused call carries one of its numbers, and leaves the record, or the lent lists, as they were. Assumes nothing.
 use Prim.Native.Nat.{ℕ}
 use mathlib.Core.Path.{_≡_, refl, sym, ap, _∙_}
-use mathlib.Core.Bool.{true, _||_}
+use mathlib.Core.Bool.{true, _&&_, _||_}
 use mathlib.Core.List.{List, [], _∷_}
-use lib.Dec.{ltb, leb, eqb}
+use lib.Dec.{ltb, eqb}
 use lib.ListN.{length}
 use Rattle.units.specs.Limits.{lastStamp}
+use Rattle.units.specs.Refusals.{refusals}
 use Rattle.fields.proofs.Choosing.{whichever}
 use Rattle.fields.proofs.Tests.{both, and-yes, or-true}
-use Rattle.frame.specs.declared.ClosingPdu.{ClosingPdu}
-use Rattle.frame.specs.declared.DataPdu.{DataPdu}
-use Rattle.frame.specs.declared.Read.{Read}
-use Rattle.frame.specs.declared.Read.the-variants.{Closing, Data, ClosingWithLengths, Refused as NotRead}
 use Rattle.frame.specs.Paper.{readPaper}
 use Rattle.frame.specs.Reading.{readFrame}
 use Rattle.reception.specs.declared.Joining.{Joining}
@@ -20,21 +17,21 @@ use Rattle.reception.specs.declared.Reported.the-variants.{Done, Refused}
 use Rattle.reception.specs.declared.Taken.{Taken}
 use Rattle.reception.specs.declared.Taken.the-variants.{Done as TakenDone, Refused as NotTaken}
 use Rattle.reception.specs.declared.Taking.{Taking}
-use Rattle.reception.specs.Adding.{packetContradicts, closingContradicts}
-use Rattle.reception.specs.Hearing.{Kept, Outcome, keptIn, heldBy, unused, unmatched, damagedKept, listsDiffer, otherKey, freshRecord, hearPacket, hearClosing, hearRead, hearFrame, takenPaper, Takes}
+use Rattle.reception.specs.Hearing.{Kept, Outcome, keptIn, heldBy, unused, unmatched, damagedKept, listsDiffer, freshRecord, hearFrame, takenPaper, Takes}
 use Rattle.reception.specs.Joining.{JoinPaper, JoinOutcome, capacitiesOff, otherRecord, lowest, ownClosingOff, joinRecords, joinedPaper, Joins}
 use Rattle.reception.specs.Reporting.{Gap, ReportPaper, gapsOf, gapsAfter, reportRecord, reportedPaper, roomOf, Reports}
 use Rattle.reception.specs.Several.{hearSequence, answersAfter}
+use Rattle.reception.proofs.HeardTold.{Answered, unmatched-lists, unread, withheld, taken, damaged, other, beyond, contradicting, heard-told}
 use Rattle.several.specs.Rest.{HearsSequence}
 use Rattle.demands.specs.Demand1.{among, carries, ofFresh, ofHearingMany, ofJoining, ofReport, ofReading, ofHearing, Leaves}
 use Rattle.demands.proofs.Refusals.{accepted-of, no-zero, among-more, read-carries}
 
 -- fresh records, and hearing
 abbrev pub OutcomeLeaves : List ℕ → Kept → Outcome → Type 0
-OutcomeLeaves numbers old t = Leaves numbers old (takenPaper (t .answer) .number) (takenPaper (t .answer) .accepted) (t .kept)
+OutcomeLeaves numbers old t = Leaves numbers old (takenPaper (t .answer)) (t .kept)
 
 pub takes-leaves : (numbers : List ℕ) (old : Kept) (t : Outcome) (r : Taking) (m e s : List ℕ) → OutcomeLeaves numbers old t → Takes t r m e s
-    → Leaves numbers old (takenPaper (r .answer) .number) (takenPaper (r .answer) .accepted) (keptIn (r .head) m e s)
+    → Leaves numbers old (takenPaper (r .answer)) (keptIn (r .head) m e s)
 takes-leaves numbers old t r m e s c w = (rw (w .says) (c .0), λ z. w .leaves ∙ c .1 (sym (ap accepted-of (w .says)) ∙ z))
 
 pub fresh-leaves : (bearer period stamp : ℕ) (marks elapsed sizes : List ℕ)
@@ -44,41 +41,24 @@ fresh-leaves bearer period stamp marks elapsed sizes =
     whichever (OutcomeLeaves ofFresh (unused marks elapsed sizes)) _ _ (listsDiffer (length marks) (length elapsed) (length sizes)) (refl, λ _. refl)
     (λ _. whichever (OutcomeLeaves ofFresh (unused marks elapsed sizes)) _ _ (ltb lastStamp stamp) (refl, λ _. refl) (λ _. (refl, no-zero)))
 
-packet-leaves : (k : Kept) (bearer period : ℕ) (d : DataPdu) → OutcomeLeaves ofHearing k (hearPacket k bearer period d)
-unfolding hearPacket takenPaper among
-packet-leaves k bearer period d =
-    whichever (OutcomeLeaves ofHearing k) _ _ (otherKey (k .head) bearer period (d .stamp)) (refl, λ _. refl)
-    (λ _.
-    whichever (OutcomeLeaves ofHearing k) _ _ (leb (length (k .marks)) (d .number .0)) (refl, λ _. refl)
-    (λ _.
-    whichever (OutcomeLeaves ofHearing k) _ _ (packetContradicts (heldBy k) (d .number .0) (d .elapsed .0) (d .length .0)) (refl, λ _. refl)
-    (λ _. (refl, no-zero))))
-
-closing-leaves : (k : Kept) (bearer period : ℕ) (c : ClosingPdu) → OutcomeLeaves ofHearing k (hearClosing k bearer period c)
-unfolding hearClosing takenPaper among
-closing-leaves k bearer period c =
-    whichever (OutcomeLeaves ofHearing k) _ _ (otherKey (k .head) bearer period (c .stamp)) (refl, λ _. refl)
-    (λ _.
-    whichever (OutcomeLeaves ofHearing k) _ _ (ltb (length (k .marks)) (c .number .0)) (refl, λ _. refl)
-    (λ _.
-    whichever (OutcomeLeaves ofHearing k) _ _ (closingContradicts (heldBy k) (c .number .0) (c .elapsed .0)) (refl, λ _. refl)
-    (λ _. (refl, no-zero))))
-
-read-leaves : (k : Kept) (bearer period : ℕ) (x : Read) → carries ofReading (readPaper x .number) (readPaper x .kind) ≡ true
-    → OutcomeLeaves ofHearing k (hearRead k bearer period x)
-unfolding hearRead readPaper takenPaper among
-read-leaves k bearer period (NotRead r) c =
-    let p = both (among ofReading (r .number)) _ c in
+-- a frame heard, by what hearing comes to
+answered-leaves : (k : Kept) (f : List ℕ) (o : Outcome) → Answered k (readFrame f) o → OutcomeLeaves ofHearing k o
+unfolding takenPaper readPaper among
+answered-leaves k f _ unmatched-lists = (refl, λ _. refl)
+answered-leaves k f _ (unread r e) =
+    let c : carries ofReading (r .number) (r .found) (r .«worked_out») 0 ≡ true = rw e at (read-carries f) in
+    let q = both (among ofReading (r .number) && among refusals (r .number)) _ c in
+    let p = both (among ofReading (r .number)) _ (q .0) in
     let more = among-more ofReading (13 ∷ 9 ∷ 10 ∷ 11 ∷ []) (r .number) (p .0) in
-    (and-yes {a = among ofHearing (r .number)} (rw more (or-true (eqb 14 (r .number)))) (p .1), λ _. refl)
-read-leaves k bearer period (Data d) c = whichever (OutcomeLeaves ofHearing k) _ _ (damagedKept k) (refl, λ _. refl) (λ _. packet-leaves k bearer period d)
-read-leaves k bearer period (Closing p) c = whichever (OutcomeLeaves ofHearing k) _ _ (damagedKept k) (refl, λ _. refl) (λ _. closing-leaves k bearer period p)
-read-leaves k bearer period (ClosingWithLengths p) c = whichever (OutcomeLeaves ofHearing k) _ _ (damagedKept k) (refl, λ _. refl) (λ _. closing-leaves k bearer period p)
+    (and-yes (and-yes {a = among ofHearing (r .number)} (rw more (or-true (eqb 14 (r .number)))) (p .1)) (q .1), λ _. refl)
+answered-leaves k f _ (withheld _ damaged w) = (refl, λ _. refl)
+answered-leaves k f _ (withheld _ other w) = (refl, λ _. refl)
+answered-leaves k f _ (withheld _ beyond w) = (refl, λ _. refl)
+answered-leaves k f _ (withheld _ contradicting w) = (refl, λ _. refl)
+answered-leaves k f _ (taken next w) = (refl, no-zero)
 
 pub hear-leaves : (k : Kept) (bearer period : ℕ) (f : List ℕ) → OutcomeLeaves ofHearing k (hearFrame k bearer period f)
-unfolding hearFrame takenPaper among
-hear-leaves k bearer period f =
-    whichever (OutcomeLeaves ofHearing k) _ _ (unmatched k) (refl, λ _. refl) (λ _. read-leaves k bearer period (readFrame f) (read-carries f))
+hear-leaves k bearer period f = answered-leaves k f (hearFrame k bearer period f) (heard-told k bearer period f)
 
 -- many frames at once
 pub many-leaves : (bearer period stamp : ℕ) (old : Kept) (frames : List (List ℕ)) (room : ℕ)
@@ -90,27 +70,29 @@ many-leaves bearer period stamp old frames room =
     whichever (OutcomeLeaves ofHearingMany old) _ _ (ltb lastStamp stamp) (refl, λ _. refl)
     (λ _. whichever (OutcomeLeaves ofHearingMany old) _ _ (ltb room (length frames)) (refl, λ _. refl) (λ _. (refl, no-zero))))
 
-pub none-told : (a : Taken) (ts : List Taken) (old : List ℕ) → takenPaper a .accepted ≡ 0 → answersAfter a ts old ≡ old
+pub none-answered : (a : Taken) (ts : List Taken) (old : List ℕ) → takenPaper a .accepted ≡ 0 → answersAfter a ts old ≡ old
 unfolding takenPaper
-none-told TakenDone ts old e = no-zero e
-none-told (NotTaken r) ts old e = refl
+none-answered TakenDone ts old e = no-zero e
+none-answered (NotTaken r) ts old e = refl
 
 pub many-carry : (bearer period stamp : ℕ) (old : Kept) (frames : List (List ℕ)) (ts : List Taken) (answers : List ℕ) (r : Taking) (m e s new : List ℕ)
     → HearsSequence (hearSequence bearer period stamp old frames (length answers)) ts answers r m e s new
-    → Leaves ofHearingMany old (takenPaper (r .answer) .number) (takenPaper (r .answer) .accepted) (keptIn (r .head) m e s)
+    → Leaves ofHearingMany old (takenPaper (r .answer)) (keptIn (r .head) m e s)
     × (takenPaper (r .answer) .accepted ≡ 0 → new ≡ answers)
 many-carry bearer period stamp old frames ts answers r m e s new w =
     let t = hearSequence bearer period stamp old frames (length answers) in (
       takes-leaves ofHearingMany old t r m e s (many-leaves bearer period stamp old frames (length answers)) (w .taken),
-      λ z. w .answers ∙ none-told (t .answer) ts answers (sym (ap accepted-of (w .taken .says)) ∙ z),
+      λ z. w .answers ∙ none-answered (t .answer) ts answers (sym (ap accepted-of (w .taken .says)) ∙ z),
     )
 
 -- joining
 abbrev pub JoinLeaves : Kept → JoinOutcome → Type 0
-JoinLeaves a t = Leaves ofJoining a (joinedPaper (t .answer) .number) (joinedPaper (t .answer) .accepted) (t .kept)
+JoinLeaves a t =
+    (carries ofJoining (joinedPaper (t .answer) .number) (joinedPaper (t .answer) .found) (joinedPaper (t .answer) .worked) (joinedPaper (t .answer) .accepted) ≡ true)
+    × (joinedPaper (t .answer) .accepted ≡ 0 → t .kept ≡ a)
 
 pub joins-leaves : (a : Kept) (t : JoinOutcome) (r : Joining) (m e s : List ℕ) → JoinLeaves a t → Joins t r m e s
-    → Leaves ofJoining a (joinedPaper (r .answer) .number) (joinedPaper (r .answer) .accepted) (keptIn (r .head) m e s)
+    → JoinLeaves a (record { answer = r .answer; kept = keptIn (r .head) m e s })
 joins-leaves a t r m e s c w = (rw (w .says) (c .0), λ z. w .leaves ∙ c .1 (sym (ap (λ (p : JoinPaper). p .accepted) (w .says)) ∙ z))
 
 pub join-leaves : (a b : Kept) → JoinLeaves a (joinRecords a b)
@@ -127,7 +109,7 @@ join-leaves a b =
 
 -- reporting
 abbrev ReportCarries : Reported → Type 0
-ReportCarries x = carries ofReport (reportedPaper x .number) (reportedPaper x .accepted) ≡ true
+ReportCarries x = carries ofReport (reportedPaper x .number) (reportedPaper x .found) (reportedPaper x .worked) (reportedPaper x .accepted) ≡ true
 
 report-carries : (k : Kept) (room : ℕ) → ReportCarries (reportRecord k room)
 unfolding reportRecord reportedPaper among
@@ -142,7 +124,7 @@ none-listed (Done r) number gaps old e = no-zero e
 none-listed (Refused r) number gaps old e = refl
 
 pub reports-carry : (k : Kept) (firsts counts octets : List ℕ) (r : Reported) (f c o : List ℕ) → Reports k firsts counts octets r f c o
-    → (carries ofReport (reportedPaper r .number) (reportedPaper r .accepted) ≡ true)
+    → (carries ofReport (reportedPaper r .number) (reportedPaper r .found) (reportedPaper r .worked) (reportedPaper r .accepted) ≡ true)
     × (reportedPaper r .accepted ≡ 0 → (f ≡ firsts) × (c ≡ counts) × (o ≡ octets))
 reports-carry k firsts counts octets r f c o w =
     let x = reportRecord k (roomOf firsts counts octets) in (

@@ -11,9 +11,13 @@ use Rattle.fields.proofs.Tests.{and-false}
 use Rattle.demands.specs.Demand1.{among, carries, ofReading, ofLengths, ofWritingData, ofWritingClosing, ofWritingLengths, ofOpening, ofNewPeriod, ofData, ofClosing, ofClosingLengths, ofStamp, ofDue, ofFresh, ofHearing, ofHearingMany, ofJoining, ofReport}
 
 -- whatever the call's list: it carries 19 neither as a refusal nor with what it took
-pub retired : (numbers : List ℕ) (taken : ℕ) → carries numbers 19 taken ≡ false
+pub retired : (numbers : List ℕ) (found worked taken : ℕ) → carries numbers 19 found worked taken ≡ false
 unfolding among
-retired numbers taken = ap (λ (t : Bool). cond (eqb taken 0) t false) (and-false (among numbers 19)) ∙ pick-same (eqb taken 0) false
+retired numbers found worked taken =
+    let n : cond (eqb taken 0) (among numbers 19 && among refusals 19) false ≡ false =
+    ap (λ (t : Bool). cond (eqb taken 0) t false) (and-false (among numbers 19)) ∙ pick-same (eqb taken 0) false
+    in
+    ap (λ (t : Bool). t && (eqb found 0 && eqb worked 0)) n
 
 -- the numbers of all lists; that of a new call goes here too
 abbrev everyList : List ℕ

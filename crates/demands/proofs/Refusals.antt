@@ -3,11 +3,12 @@
 use Prim.Native.Nat.{ℕ, zero, suc, _+_}
 use native.Mathlib.Omega.{arith}
 use mathlib.Core.Path.{_≡_, refl, sym, ap, _∙_}
-use mathlib.Core.Bool.{Bool, true, false, _||_, false≢true}
+use mathlib.Core.Bool.{Bool, true, false, _&&_, _||_, false≢true}
 use mathlib.Core.List.{List, [], _∷_, _++_}
 use lib.Dec.{ltb, leb, eqb}
 use lib.ListN.{length}
 use Rattle.units.specs.Limits.{lastStamp, mostPayload}
+use Rattle.units.specs.Refusals.{refusals}
 use Rattle.fields.proofs.Choosing.{whichever}
 use Rattle.fields.proofs.Tests.{both, and-yes}
 use Rattle.clock.specs.declared.Moment.{Moment}
@@ -29,11 +30,11 @@ use Rattle.frame.specs.Reading.{lengthWrong, checkWrong, countsWrong, headerWro
 use Rattle.frame.specs.Writing.{writeData, writeClosing, writeLengths, after}
 use Rattle.reader.specs.Lists.{Lists}
 use Rattle.writer.specs.Promise.{Wrote}
-use Rattle.demands.specs.Demand1.{among, carries, ofReading, ofLengths, ofWritingData, ofWritingClosing, ofWritingLengths, ofStamp, ofDue, WritesOn}
+use Rattle.demands.specs.Demand1.{among, carries, carriesAs, ofReading, ofLengths, ofWritingData, ofWritingClosing, ofWritingLengths, ofStamp, ofDue, WritesOn}
 
 -- reading
 abbrev ReadCarries : Read → Type 0
-ReadCarries x = carries ofReading (readPaper x .number) (readPaper x .kind) ≡ true
+ReadCarries x = carries ofReading (readPaper x .number) (readPaper x .found) (readPaper x .worked) (readPaper x .kind) ≡ true
 
 said-carries : (t : ℕ) (s : List ℕ) → ReadCarries (said t s)
 unfolding readPaper
@@ -81,13 +82,14 @@ among-more (x ∷ xs) ys n e = go (eqb x n) (among-more xs ys n) e
 
 -- lengths
 abbrev ListCarries : Listed → Type 0
-ListCarries x = carries ofLengths (listedPaper x .number) (listedPaper x .accepted) ≡ true
+ListCarries x = carriesAs ofLengths (listedPaper x) ≡ true
 
 listed-carries : (x : Read) (room : ℕ) → ReadCarries x → ListCarries (listLengths x room)
 unfolding listLengths readPaper listedPaper among
 listed-carries (NotRead r) room c =
-    let p = both (among ofReading (r .number)) _ c in
-    and-yes (among-more ofReading (12 ∷ []) (r .number) (p .0)) (p .1)
+    let q = both (among ofReading (r .number) && among refusals (r .number)) _ c in
+    let p = both (among ofReading (r .number)) _ (q .0) in
+    and-yes (and-yes (among-more ofReading (12 ∷ []) (r .number) (p .0)) (p .1)) (q .1)
 listed-carries (Closing p) room c = refl
 listed-carries (Data d) room c = refl
 listed-carries (ClosingWithLengths p) room c = whichever ListCarries _ _ (ltb room (p .number .0)) refl (λ _. refl)
@@ -105,7 +107,7 @@ lists-carry s old r new w = (
 
 -- writing
 abbrev pub WriteCarries : List ℕ → Written → Type 0
-WriteCarries numbers a = carries numbers (writtenPaper a .number) (writtenPaper a .accepted) ≡ true
+WriteCarries numbers a = carriesAs numbers (writtenPaper a) ≡ true
 
 pub none-written : (a : Written) (frame old : List ℕ) → writtenPaper a .accepted ≡ 0 → after a frame old ≡ old
 unfolding writtenPaper after
@@ -147,14 +149,14 @@ lengths-carry c ls room =
 
 -- the clock
 abbrev MomentCarries : Moment → Type 0
-MomentCarries x = carries ofStamp (momentPaper x .number) (momentPaper x .accepted) ≡ true
+MomentCarries x = carries ofStamp (momentPaper x .number) (momentPaper x .found) (momentPaper x .worked) (momentPaper x .accepted) ≡ true
 
 pub moment-carries : (start tick : ℕ) → MomentCarries (momentOf start tick)
 unfolding momentOf momentPaper among
 moment-carries start tick = whichever MomentCarries _ _ (leb 60000 (past tick start)) refl (λ _. refl)
 
 abbrev DueCarries : DueTime → Type 0
-DueCarries x = carries ofDue (duePaper x .number) (duePaper x .accepted) ≡ true
+DueCarries x = carries ofDue (duePaper x .number) (duePaper x .found) (duePaper x .worked) (duePaper x .accepted) ≡ true
 
 pub due-carries : (start stamp : ℕ) → DueCarries (dueAt start stamp)
 unfolding dueAt duePaper among

@@ -16,12 +16,12 @@ use Rattle.sender.specs.declared.Dispatch.{Dispatch}
 use Rattle.sender.specs.declared.Turning.{Turning}
 use Rattle.sender.specs.State.{damaged, isOpen, notLater}
 use Rattle.sender.specs.Calls.{turnedPaper, openCall, renewCall, dataCall, closeCall, closeWithCall, Turns, Sends}
-use Rattle.demands.specs.Demand1.{among, carries, ofOpening, ofNewPeriod, ofData, ofClosing, ofClosingLengths, SendsOn, TurnsOn}
+use Rattle.demands.specs.Demand1.{among, carriesAs, ofOpening, ofNewPeriod, ofData, ofClosing, ofClosingLengths, SendsOn, TurnsOn}
 use Rattle.demands.proofs.Refusals.{accepted-of, none-written, WriteCarries}
 
 -- calls that write nothing
 abbrev TurnCarries : List ℕ → Turning → Type 0
-TurnCarries numbers t = carries numbers (turnedPaper (t .answer) .number) (turnedPaper (t .answer) .accepted) ≡ true
+TurnCarries numbers t = carriesAs numbers (turnedPaper (t .answer)) ≡ true
 
 pub turns-carry : (numbers : List ℕ) (s : Sender) (t r : Turning) → TurnCarries numbers t → (turnedPaper (t .answer) .accepted ≡ 0 → t .sender ≡ s)
     → Turns t r → TurnsOn numbers s r

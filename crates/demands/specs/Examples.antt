@@ -15,7 +15,7 @@ use Rattle.sender.specs.declared.Sender.{Sender}
 use Rattle.sender.specs.State.{freshSender, closingBy}
 use Rattle.sender.specs.Calls.{openCall, dataCall}
 use Rattle.reception.specs.Hearing.{emptyKept}
-use Rattle.reception.specs.Several.{answersTo, numberOf}
+use Rattle.reception.specs.Several.{answersTo, refusalNumber}
 
 -- "stamp 0, first packet, no payload", as document 01 prints it
 abbrev pub A : List ℕ
@@ -65,7 +65,7 @@ reading s = readPaperList (readPaper (readFrame s))
 
 -- the refusals' numbers, or 0, of frames heard one after another into an empty record of three places
 abbrev pub hearing : List (List ℕ) → List ℕ
-hearing frames = map numberOf (answersTo (emptyKept 7 3 0 3) 7 3 frames)
+hearing frames = map refusalNumber (answersTo (emptyKept 7 3 0 3) 7 3 frames)
 
 -- when a frame is due: the refusal's number or 0, and the tick
 abbrev dueList : DuePaper → List ℕ

@@ -16,7 +16,7 @@ use Rattle.reception.specs.Joining.{JoinOutcome}
 use Rattle.numbers_frames.specs.Reading.{ReadOut, ListsInOne}
 use Rattle.numbers_frames.specs.Writing.{Writes}
 use Rattle.numbers_sender.specs.Senders.{MakesFresh, TurnsState, SendsState}
-use Rattle.numbers_record.specs.Records.{Keeps, Answers}
+use Rattle.numbers_record.specs.Records.{Keeps, AnswersOut}
 use Rattle.numbers_join.specs.Joins.{KeepsJoined}
 use Rattle.numbers_report.specs.Reports.{Figures}
 use Rattle.numbers_ticks.specs.Ticks.{momentNumber, dueNumber}
@@ -39,7 +39,7 @@ pub record OneExported : Type 0 where
   pub record-call : (told : Taken → ℕ) (old : List ℕ) (k : Kept) (t : Outcome)
       → Fixes (λ (o : ℕ × Lent × Lent × Lent × Lent). Keeps told old k t (o .0) (o .1) (o .2) (o .3) (o .4))
   pub hear-all : (told : Taken → ℕ) (old : List ℕ) (k : Kept) (t : Outcome) (ts : List Taken) (answers : List ℕ)
-      → Fixes (λ (o : ℕ × Lent × Lent × Lent × Lent × Lent). Keeps told old k t (o .0) (o .1) (o .2) (o .3) (o .4) × Answers old t ts answers (o .5))
+      → Fixes (λ (o : ℕ × Lent × Lent × Lent × Lent × Lent). Keeps told old k t (o .0) (o .1) (o .2) (o .3) (o .4) × AnswersOut old t ts answers (o .5))
   -- `quimdoral_join`, `quimdoral_report`
   pub join : (old other : List ℕ) (k : Kept) (t : JoinOutcome)
       → Fixes (λ (o : ℕ × Lent × Lent × Lent × Lent). KeepsJoined old other k t (o .0) (o .1) (o .2) (o .3) (o .4))

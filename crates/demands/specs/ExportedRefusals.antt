@@ -1,5 +1,6 @@
--- Demand 1 of the exported functions, by what they promise: "no lent memory differs after" a refusal. Their answers are numbers, so a
--- refusal is one that is not 0, or, where 256 times a value stands beside it, one that is no multiple of 256. Assumes nothing.
+-- Demand 1 of the exported functions, by what they promise: "no lent memory differs after" a refusal. Their answers are numbers: where an
+-- accepted call answers 0, any other is a refusal, also one with checks above its number; where it answers 256 times a value, one that is no
+-- multiple of 256. Assumes nothing.
 use Prim.Native.Nat.{ℕ, _%_}
 use mathlib.Core.Path.{_≡_}
 use mathlib.Core.Logic.{_≢_}
@@ -13,20 +14,20 @@ use Rattle.sender.specs.declared.Turning.{Turning}
 use Rattle.reception.specs.declared.Taken.{Taken}
 use Rattle.reception.specs.Hearing.{Kept, keptIn, unused, freshRecord, hearFrame}
 use Rattle.reception.specs.Joining.{joinRecords}
-use Rattle.reception.specs.Several.{numberOf, answerOf, hearSequence}
+use Rattle.reception.specs.Several.{refusalNumber, answerOf, hearSequence}
 use Rattle.numbers_frames.specs.Reading.{ReadOut, ListsInOne}
 use Rattle.numbers_frames.specs.Writing.{Writes}
 use Rattle.numbers_sender.specs.Senders.{MakesFresh, TurnsState, SendsState}
 use Rattle.numbers_head.specs.Heads.{headOf}
-use Rattle.numbers_record.specs.Records.{Keeps, Answers}
+use Rattle.numbers_record.specs.Records.{Keeps, AnswersOut}
 use Rattle.numbers_join.specs.Joins.{KeepsJoined}
 use Rattle.numbers_report.specs.Reports.{Figures}
 
--- a number that is a refusal's
+-- an answer that is a refusal, where 0 is the only one that is not
 abbrev pub Refusing : ℕ → Type 0
 Refusing r = r ≢ 0
 
--- and one that is, beside 256 times a value
+-- and one that is, where others are 256 times a value
 abbrev pub RefusingInOne : ℕ → Type 0
 RefusingInOne r = r % 256 ≢ 0
 
@@ -48,13 +49,13 @@ pub record RefusedExported : Type 0 where
       → RefusingInOne r → (new ≡ old) × (out′ ≡ out)
   -- `quimdoral_fresh`, `quimdoral_hear`, `quimdoral_hear_all`
   pub fresh : (bearer period stamp : ℕ) (old m e s : List ℕ) (r : ℕ) (new m′ e′ s′ : List ℕ)
-      → Keeps numberOf old (unused m e s) (freshRecord bearer period stamp m e s) r new m′ e′ s′ → Refusing r → SameRecord old (unused m e s) new m′ e′ s′
+      → Keeps refusalNumber old (unused m e s) (freshRecord bearer period stamp m e s) r new m′ e′ s′ → Refusing r → SameRecord old (unused m e s) new m′ e′ s′
   pub hear : (bearer period : ℕ) (f old m e s : List ℕ) (r : ℕ) (new m′ e′ s′ : List ℕ)
       → Keeps answerOf old (keptIn (headOf old) m e s) (hearFrame (keptIn (headOf old) m e s) bearer period f) r new m′ e′ s′ → Refusing r
       → SameRecord old (keptIn (headOf old) m e s) new m′ e′ s′
   pub hear-all : (bearer period stamp : ℕ) (frames : List (List ℕ)) (ts : List Taken) (old m e s answers : List ℕ) (r : ℕ) (new m′ e′ s′ answers′ : List ℕ)
-      → Keeps numberOf old (unused m e s) (hearSequence bearer period stamp (unused m e s) frames (length answers)) r new m′ e′ s′
-      → Answers old (hearSequence bearer period stamp (unused m e s) frames (length answers)) ts answers answers′ → Refusing r
+      → Keeps refusalNumber old (unused m e s) (hearSequence bearer period stamp (unused m e s) frames (length answers)) r new m′ e′ s′
+      → AnswersOut old (hearSequence bearer period stamp (unused m e s) frames (length answers)) ts answers answers′ → Refusing r
       → SameRecord old (unused m e s) new m′ e′ s′ × (answers′ ≡ answers)
   -- `quimdoral_join`, `quimdoral_report`
   pub join : (a b : Kept) (old other : List ℕ) (r : ℕ) (new m′ e′ s′ : List ℕ) → KeepsJoined old other a (joinRecords a b) r new m′ e′ s′

@@ -127,35 +127,36 @@ lengths-type (suc (suc t)) s c h g e = (three (suc (suc t)) h g (omega arith), c
     three : (t : ℕ) → (t ≡ 2 → ⊥) → t ≤ 3 → 2 ≤ t → t ≡ 3
     three t h g l = omega arith
 
+-- no case that is accepted is a refusal
+pub no-data : (d : DataPdu) (r : Refusal) → Refused r ≡ Data d → ⊥
+no-data d r h =
+    let z : _≡_ {A = ℕ} 0 1 = cc in
+    omega arith
+
+pub no-closing : (c : ClosingPdu) (r : Refusal) → Refused r ≡ Closing c → ⊥
+no-closing c r h =
+    let z : _≡_ {A = ℕ} 0 1 = cc in
+    omega arith
+
+pub no-lengths : (c : ClosingPdu) (r : Refusal) → Refused r ≡ ClosingWithLengths c → ⊥
+no-lengths c r h =
+    let z : _≡_ {A = ℕ} 0 1 = cc in
+    omega arith
+
 pub read-data : (s : List ℕ) (d : DataPdu) → readFrame s ≡ Data d → Good s × (typeOf s ≡ 1) × (dataOf s ≡ d)
 read-data s d e =
-    let g = good-read s (Data d) no-data e in
+    let g = good-read s (Data d) (no-data d) e in
     let t = data-type (typeOf s) s d (g .1) in
     (g .0, t .0, t .1)
-  where
-    no-data : (r : Refusal) → Refused r ≡ Data d → ⊥
-    no-data r h =
-        let z : _≡_ {A = ℕ} 0 1 = cc in
-        omega arith
 
 pub read-closing : (s : List ℕ) (c : ClosingPdu) → readFrame s ≡ Closing c → Good s × (typeOf s ≡ 0) × (closingOf s ≡ c)
 read-closing s c e =
-    let g = good-read s (Closing c) no-closing e in
+    let g = good-read s (Closing c) (no-closing c) e in
     let t = closing-type (typeOf s) s c (g .1) in
     (g .0, t .0, t .1)
-  where
-    no-closing : (r : Refusal) → Refused r ≡ Closing c → ⊥
-    no-closing r h =
-        let z : _≡_ {A = ℕ} 0 1 = cc in
-        omega arith
 
 pub read-with-lengths : (s : List ℕ) (c : ClosingPdu) → readFrame s ≡ ClosingWithLengths c → Good s × (typeOf s ≡ 3) × (closingOf s ≡ c)
 read-with-lengths s c e =
-    let g = good-read s (ClosingWithLengths c) no-lengths e in
+    let g = good-read s (ClosingWithLengths c) (no-lengths c) e in
     let t = lengths-type (typeOf s) s c (g .0 .not-two) (g .0 .known) (g .1) in
     (g .0, t .0, t .1)
-  where
-    no-lengths : (r : Refusal) → Refused r ≡ ClosingWithLengths c → ⊥
-    no-lengths r h =
-        let z : _≡_ {A = ℕ} 0 1 = cc in
-        omega arith

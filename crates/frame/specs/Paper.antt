@@ -1,5 +1,5 @@
--- Document 01's number and values for each case of an answer: "a refusal returns its number and zeros elsewhere". The promises are
--- about these. Assumes nothing.
+-- Document 01's number and values for each case of an answer: "a refusal returns its number and zeros elsewhere"; and document 02's checks
+-- with it, in each paper `found` and `worked`. The promises are about these. Assumes nothing.
 use Prim.Native.Nat.{ℕ}
 use Rattle.frame.specs.declared.Read.{Read}
 use Rattle.frame.specs.declared.Read.the-variants.{Closing, Data, ClosingWithLengths, Refused as NotRead}
@@ -9,7 +9,7 @@ use Rattle.frame.specs.declared.Listed.{Listed}
 use Rattle.frame.specs.declared.Listed.the-variants.{Lengths, Refused as NotListed}
 use Rattle.frame.specs.declared.ClosingPdu.{ClosingPdu}
 
--- of reading: the refusal's number, or 0; one more than the PDU type; the fields; and the payload's length
+-- of reading: the refusal's number and both checks, or zeros; one more than the PDU type; the fields; and the payload's length
 pub record ReadPaper : Type 0 where
   pub number : ℕ
   pub found : ℕ
@@ -58,7 +58,7 @@ readPaper (ClosingWithLengths c) = closingPaper 4 c
 readPaper (NotRead r) =
     record { number = r .number; found = r .found; worked = r .«worked_out»; kind = 0; stamp = 0; packet = 0; elapsed = 0; packets = 0; octets = 0; payload = 0 }
 
--- of writing and listing: the refusal's number, or 0; 1 where accepted; and how many were written
+-- of writing and listing: the refusal's number and both checks, or zeros; 1 where accepted; and how many were written
 pub record CountPaper : Type 0 where
   pub number : ℕ
   pub found : ℕ

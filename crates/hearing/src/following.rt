@@ -7,7 +7,7 @@ ghost use lib.ListN.{length};
 ghost use Rattle.reception.specs.Damage.{Matched};
 ghost use Rattle.reception.specs.Neighbours.{NoneBefore, NoneFrom};
 ghost use Rattle.reception.specs.Hearing.{keptIn, takenOf, damagedKept, hearPacket, hearClosing, hearFrame};
-ghost use Rattle.hearing.specs.Following.{withPlace, followed, Follows};
+ghost use Rattle.hearing.specs.Following.{followed, Follows};
 use crate::contradicting::Span;
 use crate::taking::take_closing;
 use crate::taking::take_packet;

@@ -8,7 +8,7 @@ use lib.ListN.{length}
 use lib.Dec.{eqb}
 use borrow.Author.Tests.{eqb-true, not-false}
 use Rattle.units.specs.declared.Refusal.{Refusal}
-use Rattle.units.specs.Answers.{withValue, checksValue}
+use Rattle.units.specs.OneNumber.{refusalInOne}
 use Rattle.fields.proofs.Tests.{or-false}
 use Rattle.frame.specs.declared.Written.{Written}
 use Rattle.frame.specs.declared.Written.the-variants.{Done, Refused}
@@ -26,7 +26,7 @@ as-few a r e h = subst (λ (p : CountPaper). p .count ≤ mostCounted) (sym e) h
 
 -- an answer in one number
 module _ (w : Written) where
-  pub one-refused : (x : Refusal) → w ≡ Refused x → withValue (x .number) (checksValue (x .found) (x .«worked_out»)) ≡ inOne (writtenPaper w)
+  pub one-refused : (x : Refusal) → w ≡ Refused x → refusalInOne (x .number) (x .found) (x .«worked_out») ≡ inOne (writtenPaper w)
   unfolding inOne writtenPaper
   one-refused x e = rw e (omega arith)
 

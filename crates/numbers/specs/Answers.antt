@@ -1,6 +1,6 @@
 -- Answers with a value as C and Rust get them: in one number. Assumes nothing.
 use Prim.Native.Nat.{ℕ, _+_}
-use Rattle.units.specs.Answers.{withValue, checksValue}
+use Rattle.units.specs.OneNumber.{withValue, checksValue}
 use Rattle.frame.specs.Paper.{CountPaper}
 
 -- the refusal's number, and above it how many were written, or both checks of 4 and 7

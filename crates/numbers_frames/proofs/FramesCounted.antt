@@ -9,7 +9,7 @@ use lib.Dec.{ltb, leb}
 use borrow.Author.Tests.{ltb-false, leb-false}
 use Rattle.units.specs.declared.Packets.{Packets}
 use Rattle.units.specs.declared.Refusal.{Refusal}
-use Rattle.units.specs.Answers.{withValue, checksValue}
+use Rattle.units.specs.OneNumber.{refusalInOne}
 use Rattle.units.specs.Limits.{lastStamp, mostPayload}
 use Rattle.fields.proofs.Tests.{or-false}
 use Rattle.frame.specs.declared.ClosingPdu.{ClosingPdu}
@@ -35,7 +35,7 @@ module _ (s old new : List ℕ) (l : Listed) (p : Lists s old l new) where
   listed-as : (r : ℕ) → r ≡ inOne (listedPaper l) → ListsInOne s old r new
   listed-as r e = record { says = e ∙ ap inOne (p .says); leaves = p .leaves }
 
-  pub listed-refused : (x : Refusal) (r : ℕ) → l ≡ NotListed x → r ≡ withValue (x .number) (checksValue (x .found) (x .«worked_out»)) → ListsInOne s old r new
+  pub listed-refused : (x : Refusal) (r : ℕ) → l ≡ NotListed x → r ≡ refusalInOne (x .number) (x .found) (x .«worked_out») → ListsInOne s old r new
   unfolding inOne listedPaper
   listed-refused x r e f = listed-as r (f ∙ rw e (omega arith))
 

@@ -4,7 +4,7 @@ use mathlib.Core.Path.{_≡_}
 use mathlib.Core.List.{List, [], _∷_}
 use lib.ListN.{length}
 use lib.Dec.{eqb, ltb}
-use Rattle.units.specs.Answers.{withValue, checksValue}
+use Rattle.units.specs.OneNumber.{refusalInOne}
 use Rattle.units.specs.Refusals.{noRoom}
 use Rattle.fields.specs.Choice.{_when_otherwise_}
 use Rattle.fields.specs.Runs.{front}
@@ -24,7 +24,7 @@ pub record SevenOut (vs old : List ℕ) (r : ℕ) (new : List ℕ) : Type 0 wher
 
 -- a frame that was read as p says: the refusal's number with both checks of 4 and 7, and nothing written; or its values
 pub record ReadOut (p : ReadPaper) (old : List ℕ) (r : ℕ) (new : List ℕ) : Type 0 where
-  pub says : r ≡ (withValue (p .number) (checksValue (p .found) (p .worked)) when eqb (p .kind) 0 otherwise noRoom when ltb (length old) 7 otherwise 0)
+  pub says : r ≡ (refusalInOne (p .number) (p .found) (p .worked) when eqb (p .kind) 0 otherwise noRoom when ltb (length old) 7 otherwise 0)
   pub leaves : new ≡ (old when eqb (p .kind) 0 otherwise old when ltb (length old) 7 otherwise front old (values p))
 
 -- the promise of listing the lengths of a frame s in a lent list that held old

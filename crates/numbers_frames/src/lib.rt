@@ -8,7 +8,7 @@ use reader::read_frame;
 use reader::read_lengths;
 use units::Octets;
 use units::Packets;
-use units::in_one;
+use units::refusal_in_one;
 use units::refusals::NO_ROOM;
 use writer::write_closing;
 use writer::write_closing_with_lengths;
@@ -48,7 +48,7 @@ pub fn read_numbers(frame: &[u8], said: &mut [u64]) -> u64
 {
     let read = read_frame(frame);
     match read {
-        Read::Refused(r) => in_one(r),
+        Read::Refused(r) => refusal_in_one(r),
         Read::Data(d) => put_seven(
             said,
             2,
@@ -88,18 +88,18 @@ fn written_in_one(w: Written) -> u64
     ensures { λ r. ⌜ r ≡ inOne (writtenPaper w) ⌝ }
 {
     match w {
-        Written::Refused(r) => in_one(r),
+        Written::Refused(r) => refusal_in_one(r),
         Written::Done(n) => 256 * (n as u64),
     }
 }
 
-// The lengths of a Type 3 frame, in front of a lent list. A frame of another type has none.
+// The lengths of a Type 3 frame, in front of a lent list. A frame of another type has none. A refusal has both checks of 4 and 7.
 pub fn lengths_in_one(frame: &[u8], lengths: &mut [u16]) -> u64
     ensures { λ r. ⌜ ListsInOne (now (frame .entry)) (now (lengths .entry)) r (now (lengths .exit)) ⌝ }
 {
     let listed = read_lengths(frame, lengths);
     match listed {
-        Listed::Refused(r) => in_one(r),
+        Listed::Refused(r) => refusal_in_one(r),
         Listed::Lengths(n) => 256 * (n.0 as u64),
     }
 }

@@ -4,7 +4,7 @@ use mathlib.Core.Path.{_≡_}
 use mathlib.Core.List.{List}
 use lib.Dec.{ltb}
 use lib.ListN.{length}
-use Rattle.units.specs.Answers.{withValue}
+use Rattle.units.specs.OneNumber.{withValue}
 use Rattle.units.specs.Refusals.{capacitiesDiffer}
 use Rattle.fields.specs.Choice.{_when_otherwise_}
 use Rattle.fields.specs.Runs.{front}

@@ -5,33 +5,15 @@ use mathlib.Core.List.{List}
 use lib.ListN.{length}
 use borrow.Author.Tests.{lt-ltb, le-ltb}
 use Rattle.units.specs.declared.Refusal.{Refusal}
-use Rattle.units.specs.Answers.{withValue, checksValue}
 use Rattle.units.specs.Refusals.{capacitiesDiffer}
 use Rattle.reception.specs.declared.Taken.{Taken}
 use Rattle.reception.specs.declared.Taken.the-variants.{Done, Refused}
 use Rattle.reception.specs.declared.Taking.{Taking}
-use Rattle.reception.specs.Hearing.{Kept, Outcome, takenPaper, Takes}
-use Rattle.reception.specs.Several.{numberOf, answerOf, answersAfter}
+use Rattle.reception.specs.Hearing.{Kept, Outcome, Takes}
+use Rattle.reception.specs.Several.{answersAfter}
 use Rattle.reception.proofs.OnePaper.{taken-known}
 use Rattle.numbers_head.specs.Heads.{withHead}
-use Rattle.numbers_record.specs.Records.{headAfter, Keeps, Answers}
-
--- what a refusal tells, by its number and in one number; and what is told where none was given
-pub number-of : (x : Refusal) → x .number ≡ numberOf (Refused x)
-unfolding takenPaper
-number-of x = refl
-
-pub answer-of : (x : Refusal) → withValue (x .number) (checksValue (x .found) (x .«worked_out»)) ≡ answerOf (Refused x)
-unfolding takenPaper
-answer-of x = refl
-
-pub no-number : 0 ≡ numberOf Done
-unfolding takenPaper
-no-number = refl
-
-pub no-answer : 0 ≡ answerOf Done
-unfolding takenPaper
-no-answer = refl
+use Rattle.numbers_record.specs.Records.{headAfter, Keeps, AnswersOut}
 
 -- a list too short for a head
 pub no-room : (told : Taken → ℕ) (old : List ℕ) (k : Kept) (t : Outcome) → length old < 6
@@ -61,13 +43,13 @@ module _ (told : Taken → ℕ) (old : List ℕ) (k : Kept) (t : Outcome) (r : T
   refused-kept x n e f = kept-as n old (f ∙ ap told (sym e)) (rw e refl)
 
   -- taken, it has the head's numbers in front
-  pub taken-kept : (new : List ℕ) → r .answer ≡ Done → 0 ≡ told Done → new ≡ withHead old (r .head) → Keeps told old k t 0 new marks elapsed sizes
-  taken-kept new e f l = kept-as 0 new (f ∙ ap told (sym e)) (l ∙ rw (e, le-ltb (length old) 6 h) refl)
+  pub taken-kept : (new : List ℕ) → r .answer ≡ Done → told Done ≡ 0 → new ≡ withHead old (r .head) → Keeps told old k t 0 new marks elapsed sizes
+  taken-kept new e f l = kept-as 0 new (sym f ∙ ap told (sym e)) (l ∙ rw (e, le-ltb (length old) 6 h) refl)
 
 -- many answers
-pub none-told : (old : List ℕ) (t : Outcome) (ts : List Taken) (answers : List ℕ) → length old < 6 → Answers old t ts answers answers
-none-told old t ts answers h = record { leaves-answers = rw (lt-ltb (length old) 6 h) refl }
+pub answers-kept : (old : List ℕ) (t : Outcome) (ts : List Taken) (answers : List ℕ) → length old < 6 → AnswersOut old t ts answers answers
+answers-kept old t ts answers h = record { leaves-answers = rw (lt-ltb (length old) 6 h) refl }
 
-pub all-told : (old : List ℕ) (t : Outcome) (ts : List Taken) (answers new : List ℕ) → 6 ≤ length old → new ≡ answersAfter (t .answer) ts answers
-    → Answers old t ts answers new
-all-told old t ts answers new h e = record { leaves-answers = e ∙ rw (le-ltb (length old) 6 h) refl }
+pub answers-left : (old : List ℕ) (t : Outcome) (ts : List Taken) (answers new : List ℕ) → 6 ≤ length old → new ≡ answersAfter (t .answer) ts answers
+    → AnswersOut old t ts answers new
+answers-left old t ts answers new h e = record { leaves-answers = e ∙ rw (le-ltb (length old) 6 h) refl }

@@ -20,8 +20,8 @@ abbrev pub headAfter : Taken → List ℕ → Head → List ℕ
 headAfter Done old h = front old (numbersOf h)
 headAfter (Refused r) old h = old
 
--- the promise about a record k whose head stands in the list old, where an answer is told so: 14 where the list has fewer than six numbers,
--- otherwise what t says
+-- the promise about a record k whose head stands in the list old, where `told` is how an answer is given as a number: 14 where the list has
+-- fewer than six numbers, otherwise what t says
 pub record Keeps (told : Taken → ℕ) (old : List ℕ) (k : Kept) (t : Outcome) (r : ℕ) (new marks elapsed sizes : List ℕ) : Type 0 where
   pub says : r ≡ (capacitiesDiffer when ltb (length old) 6 otherwise told (t .answer))
   pub leaves-head : new ≡ (old when ltb (length old) 6 otherwise headAfter (t .answer) old (t .kept .head))
@@ -30,5 +30,5 @@ pub record Keeps (told : Taken → ℕ) (old : List ℕ) (k : Kept) (t : Outcome
   pub leaves-sizes : sizes ≡ (k .sizes when ltb (length old) 6 otherwise t .kept .sizes)
 
 -- and about many answers ts, in a lent list
-pub record Answers (old : List ℕ) (t : Outcome) (ts : List Taken) (answers new : List ℕ) : Type 0 where
+pub record AnswersOut (old : List ℕ) (t : Outcome) (ts : List Taken) (answers new : List ℕ) : Type 0 where
   pub leaves-answers : new ≡ (answers when ltb (length old) 6 otherwise answersAfter (t .answer) ts answers)

@@ -12,7 +12,7 @@ use sender::fresh;
 use sender::opened;
 use sender::renewed;
 use sender::sent;
-use units::in_one;
+use units::refusal_in_one;
 use units::refusals::NO_ROOM;
 use units::refusals::SENDER_DAMAGED;
 ghost use mathlib.Core.Path.{_≡_};
@@ -52,7 +52,7 @@ fn keep_sent(state: &mut [u64], t: Dispatch) -> u64
     let after = t.sender;
     let answer = t.answer;
     match answer {
-        Written::Refused(r) => in_one(r),
+        Written::Refused(r) => refusal_in_one(r),
         Written::Done(n) => {
             put_state(state, after);
             256 * (n as u64)

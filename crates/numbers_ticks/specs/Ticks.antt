@@ -1,6 +1,6 @@
 -- The clock as C and Rust get it: an answer with a value in one number. Assumes nothing.
 use Prim.Native.Nat.{ℕ}
-use Rattle.units.specs.Answers.{withValue}
+use Rattle.units.specs.OneNumber.{withValue}
 use Rattle.clock.specs.declared.Moment.{Moment}
 use Rattle.clock.specs.declared.DueTime.{DueTime}
 use Rattle.clock.specs.Paper.{momentPaper, duePaper}

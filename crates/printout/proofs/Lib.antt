@@ -1,3 +1,4 @@
+pub mod ChecksPrinted
 pub mod Stepped
 pub mod WholeExample
 pub mod WholeText

@@ -15,7 +15,7 @@ pub extern "C" fn quimdoral_read_frame(frame: &[u8], said: &mut [u64]) -> u64
     numbers_frames::read_numbers(frame, said)
 }
 
-// The lengths of a Type 3 frame, in front of a lent list. A frame of another type has none.
+// The lengths of a Type 3 frame, in front of a lent list. A frame of another type has none. A refusal has both checks of 4 and 7.
 #[no_mangle]
 pub extern "C" fn quimdoral_read_lengths(frame: &[u8], lengths: &mut [u16]) -> u64
     ensures { λ r. ⌜ ListsInOne (now (frame .entry)) (now (lengths .entry)) r (now (lengths .exit)) ⌝ }

@@ -1,9 +1,9 @@
 // Records: an empty one, a frame heard, many frames heard.
 ghost use lib.ListN.{length};
 ghost use Rattle.reception.specs.Hearing.{keptIn, unused, emptyKept, freshRecord, hearFrame};
-ghost use Rattle.reception.specs.Several.{numberOf, answerOf, answersTo, framesIn, hearSequence};
+ghost use Rattle.reception.specs.Several.{refusalNumber, answerOf, answersTo, framesIn, hearSequence};
 ghost use Rattle.numbers_head.specs.Heads.{headOf};
-ghost use Rattle.numbers_record.specs.Records.{Keeps, Answers};
+ghost use Rattle.numbers_record.specs.Records.{Keeps, AnswersOut};
 
 // Makes an empty record of a key. Answers 0, or a refusal's number.
 #[no_mangle]
@@ -16,7 +16,7 @@ pub extern "C" fn quimdoral_fresh(
     elapsed: &mut [u32],
     sizes: &mut [u16],
 ) -> u8
-    ensures { λ r. ⌜ Keeps numberOf (now (head .entry))
+    ensures { λ r. ⌜ Keeps refusalNumber (now (head .entry))
         (unused (now (marks .entry)) (now (elapsed .entry)) (now (sizes .entry)))
         (freshRecord bearer period stamp (now (marks .entry)) (now (elapsed .entry)) (now (sizes .entry)))
         r (now (head .exit)) (now (marks .exit)) (now (elapsed .exit)) (now (sizes .exit)) ⌝ }
@@ -44,7 +44,7 @@ pub extern "C" fn quimdoral_hear(
 }
 
 // Hears many frames into an empty record of a key: they stand in one row of octets, and each is given by the place where it ends.
-// The answer to each goes in front of a lent list. Answers 0, or the number of the refusal of all.
+// The answer to each goes in front of a lent list, as `quimdoral_hear` gives it. Answers 0, or the number of the refusal of all.
 #[no_mangle]
 pub extern "C" fn quimdoral_hear_all(
     bearer: u32,
@@ -58,12 +58,12 @@ pub extern "C" fn quimdoral_hear_all(
     ends: &[u32],
     answers: &mut [u64],
 ) -> u8
-    ensures { λ r. ⌜ Keeps numberOf (now (head .entry))
+    ensures { λ r. ⌜ Keeps refusalNumber (now (head .entry))
         (unused (now (marks .entry)) (now (elapsed .entry)) (now (sizes .entry)))
         (hearSequence bearer period stamp (unused (now (marks .entry)) (now (elapsed .entry)) (now (sizes .entry)))
         (framesIn (now (octets .entry)) 0 (now (ends .entry))) (length (now (answers .entry))))
         r (now (head .exit)) (now (marks .exit)) (now (elapsed .exit)) (now (sizes .exit)) ⌝ }
-    ensures { λ r. ⌜ Answers (now (head .entry))
+    ensures { λ r. ⌜ AnswersOut (now (head .entry))
         (hearSequence bearer period stamp (unused (now (marks .entry)) (now (elapsed .entry)) (now (sizes .entry)))
         (framesIn (now (octets .entry)) 0 (now (ends .entry))) (length (now (answers .entry))))
         (answersTo (emptyKept bearer period stamp (length (now (marks .entry)))) bearer period (framesIn (now (octets .entry)) 0 (now (ends .entry))))

@@ -1,3 +1,4 @@
+pub mod AnswersTold
 pub mod AnyOrder
 pub mod BenchExamples
 pub mod ContradictsExactly

@@ -138,7 +138,7 @@ keeps h n = record { answer = Refused (refusing n); head = h }
 abbrev pub takenOf : ℕ → Taken
 takenOf n = Done when eqb n 0 otherwise Refused (refusing n)
 
--- document 01's number for what was taken, and whether it was accepted
+-- the refusal's number and both checks, or zeros, and whether the frame was accepted
 unfoldable pub takenPaper : Taken → CountPaper
 takenPaper Done = record { number = 0; found = 0; worked = 0; accepted = 1; count = 0 }
 takenPaper (Refused r) = record { number = r .number; found = r .found; worked = r .«worked_out»; accepted = 0; count = 0 }

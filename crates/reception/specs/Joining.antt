@@ -122,7 +122,7 @@ joinRecords a b =
     contradicts a closingNamed when ownClosingOff (heldBy a) (heldBy b) otherwise
     joins (joinedKept a b)
 
--- document 01's number, whether it was accepted, whether it names a packet number or the closing, and which
+-- the refusal's number and both checks, or zeros, whether it was accepted, whether it names a packet number or the closing, and which
 pub record JoinPaper : Type 0 where
   pub number : ℕ
   pub found : ℕ

@@ -85,7 +85,7 @@ reportRecord k room =
     Refused (refusing noRoom) when ltb room (length (gapsOf (heldBy k))) otherwise
     Done (reportOf (heldBy k))
 
--- document 01's number and values: "a refusal returns its number and zeros elsewhere"
+-- document 01's number and values: "a refusal returns its number and zeros elsewhere", in the places of the checks too
 pub record ReportPaper : Type 0 where
   pub number : ℕ
   pub found : ℕ

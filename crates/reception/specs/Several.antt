@@ -1,17 +1,16 @@
 -- Several frames heard one after another, and frames that stand in one row of octets. Assumes nothing.
 use Prim.Native.Nat.{ℕ, _-_}
-use mathlib.Core.Path.{_≡_}
 use mathlib.Core.List.{List, [], _∷_, map}
 use lib.Dec.{ltb}
 use lib.ListN.{length, take, drop}
-use Rattle.units.specs.Answers.{withValue, checksValue}
+use Rattle.units.specs.OneNumber.{refusalInOne}
 use Rattle.units.specs.Limits.{lastStamp}
 use Rattle.units.specs.Refusals.{stampTooHigh, noRoom, capacitiesDiffer}
 use Rattle.fields.specs.Choice.{_when_otherwise_}
 use Rattle.fields.specs.Runs.{front}
 use Rattle.reception.specs.declared.Taken.{Taken}
 use Rattle.reception.specs.declared.Taken.the-variants.{Done, Refused}
-use Rattle.reception.specs.Hearing.{Kept, Outcome, refuses, takes, unused, unmatched, emptyKept, hearFrame, takenPaper}
+use Rattle.reception.specs.Hearing.{Kept, Outcome, refuses, takes, unmatched, emptyKept, hearFrame, takenPaper}
 
 -- the record after some frames, in the order in which they came
 unfoldable pub hearAll : Kept → ℕ → ℕ → List (List ℕ) → Kept
@@ -24,8 +23,8 @@ answersTo k bearer period [] = []
 answersTo k bearer period (f ∷ fs) = hearFrame k bearer period f .answer ∷ answersTo (hearFrame k bearer period f .kept) bearer period fs
 
 -- the refusal's number, or 0
-abbrev pub numberOf : Taken → ℕ
-numberOf t = takenPaper t .number
+abbrev pub refusalNumber : Taken → ℕ
+refusalNumber t = takenPaper t .number
 
 -- the frames in a row of octets, from a place on, each by the place where it ends; one that would end before it begins is empty
 unfoldable pub framesIn : List ℕ → ℕ → List ℕ → List (List ℕ)
@@ -42,7 +41,7 @@ hearSequence bearer period stamp old frames room =
 
 -- an answer in one number: 0, or the refusal's with both checks of 4 and 7
 abbrev pub answerOf : Taken → ℕ
-answerOf t = withValue (numberOf t) (checksValue (takenPaper t .found) (takenPaper t .worked))
+answerOf t = refusalInOne (takenPaper t .number) (takenPaper t .found) (takenPaper t .worked)
 
 -- the list of answers after: one for each frame in front; or, refused, what it held
 abbrev pub answersAfter : Taken → List Taken → List ℕ → List ℕ

@@ -1,4 +1,4 @@
--- A turn is known from its number and whether it was done: no two have the same. Assumes nothing.
+-- A turn is known from its paper: no two have the same. Assumes nothing.
 use Prim.Native.Nat.{ℕ, zero, suc}
 use mathlib.Core.Path.{_≡_, refl, sym, ap, _∙_}
 use Rattle.units.specs.Refusals.{refusingCheck}

@@ -23,7 +23,7 @@ use Rattle.sender.specs.declared.Turned.the-variants.{Done as TurnDone, 
 use Rattle.sender.specs.declared.Turning.{Turning}
 use Rattle.sender.specs.State.{damaged, isOpen, notLater, freshSender}
 
--- document 01's number for a turn, and whether it was accepted
+-- the refusal's number and both checks, or zeros, and whether the turn was accepted
 unfoldable pub turnedPaper : Turned → CountPaper
 turnedPaper TurnDone = record { number = 0; found = 0; worked = 0; accepted = 1; count = 0 }
 turnedPaper (NotTurned r) = record { number = r .number; found = r .found; worked = r .«worked_out»; accepted = 0; count = 0 }

@@ -6,7 +6,7 @@ use native.Mathlib.Numerals.{add-one}
 use native.Mathlib.Omega.{arith}
 use lib.ListN.{length, getD, take, drop, set, length-set, take-append-drop, drop-of-length-le}
 use lib.Seq.{drop-cons, take-suc-set, drop-set-lt, append-snoc}
-use Rattle.units.specs.Answers.{withValue, checksValue}
+use Rattle.units.specs.OneNumber.{refusalInOne}
 use Rattle.fields.specs.Runs.{front}
 use Rattle.frame.specs.Paper.{CountPaper}
 use Rattle.reception.specs.declared.Head.{Head}
@@ -19,12 +19,12 @@ use Rattle.hearing.specs.declared.following.Following.{Following}
 use Rattle.hearing.specs.Following.{Follows}
 use Rattle.several.specs.Rest.{HearsAll}
 
--- the numbers of the answers to what is left
+-- the answers to what is left, each in one number
 abbrev answersLeft : Kept → ℕ → ℕ → List ℕ → ℕ → List ℕ → List ℕ
 answersLeft k bearer period octets from ends = map answerOf (answersTo k bearer period (framesIn octets from ends))
 
 module _ (bearer period : ℕ) (octets ends : List ℕ) where
-  -- as many numbers as frames
+  -- as many answers as frames
   as-many : (k : Kept) (from : ℕ) (es : List ℕ) → length (answersLeft k bearer period octets from es) ≡ length es
   unfolding framesIn answersTo
   as-many k from [] = refl
@@ -84,7 +84,7 @@ module _ (bearer period : ℕ) (octets ends : List ℕ) where
   unfolding answersTo
   tells-on k from i lt = rw (left-is from i lt) refl
 
-  -- one number more in front of what is left
+  -- one answer more in front of what is left
   stored : (answers rest : List ℕ) (i n : ℕ) → i < length ends → length ends ≤ length answers
       → take (i + 1) (set answers i n) ++ rest ++ drop (length ends) (set answers i n) ≡ take i answers ++ (n ∷ rest) ++ drop (length ends) answers
   stored answers rest i n lt le =
@@ -98,7 +98,7 @@ module _ (bearer period : ℕ) (octets ends : List ℕ) where
       row : n ∷ answersLeft (keptIn (r .head) marks′ elapsed′ sizes′) bearer period octets (getD ends i 0) (drop (i + 1) ends)
           ≡ answersLeft (keptIn head marks elapsed sizes) bearer period octets from (drop i ends)
       row =
-          let a : n ≡ answerOf (hearFrame (keptIn head marks elapsed sizes) bearer period f .answer) = q ∙ ap (λ (x : CountPaper). withValue (x .number) (checksValue (x .found) (x .worked))) (p .taken .says) in
+          let a : n ≡ answerOf (hearFrame (keptIn head marks elapsed sizes) bearer period f .answer) = q ∙ ap (λ (x : CountPaper). refusalInOne (x .number) (x .found) (x .worked)) (p .taken .says) in
           rw (a, p .taken .leaves, e) (sym (tells-on (keptIn head marks elapsed sizes) from i lt))
 
       one-more : length marks′ ≡ length marks → length elapsed′ ≡ length elapsed → length sizes′ ≡ length sizes

@@ -10,8 +10,8 @@ use hearing::taking::refused;
 use reception::Head;
 use reception::Taken;
 use reception::Taking;
-use units::in_one;
 use units::limits::LAST_STAMP;
+use units::refusal_in_one;
 use units::refusals::CAPACITIES_DIFFER;
 use units::refusals::NO_ROOM;
 use units::refusals::STAMP_TOO_HIGH;
@@ -31,7 +31,7 @@ fn answer_of(t: Taken) -> u64
 {
     match t {
         Taken::Done => 0,
-        Taken::Refused(r) => in_one(r),
+        Taken::Refused(r) => refusal_in_one(r),
     }
 }
 

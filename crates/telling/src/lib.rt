@@ -10,8 +10,8 @@ use gaps::put_gaps;
 use lines::put_end;
 use lines::put_number;
 use lines::put_text;
-use parts::put_four;
 use parts::put_pair;
+use parts::put_pairs;
 use reception::Head;
 use reporting::counting::count;
 use units::Refusal;
@@ -74,7 +74,7 @@ pub fn put_refused(out: &mut [u8], at: usize, place: u64, r: Refusal) -> usize
     if tells_checks(r.number) {
         let found = r.found as u64;
         let worked_out = r.worked_out as u64;
-        return put_four(out, at, b"refused", place, number, found, worked_out);
+        return put_pairs(out, at, b"refused", place, number, found, worked_out);
     }
     put_pair(out, at, b"refused", place, number)
 }

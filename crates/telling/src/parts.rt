@@ -36,8 +36,8 @@ pub fn put_pair(out: &mut [u8], at: usize, word: &[u8], a: u64, b: u64) -> usize
     put_end(out, x)
 }
 
-// A line of a word and four numbers.
-pub fn put_four(out: &mut [u8], at: usize, word: &[u8], a: u64, b: u64, c: u64, d: u64) -> usize
+// A line of a word and two pairs of numbers.
+pub fn put_pairs(out: &mut [u8], at: usize, word: &[u8], a: u64, b: u64, c: u64, d: u64) -> usize
     requires { ⌜ at + length (now word) + 85 ≤ length (now out) ⌝ }
     ensures { λ r. ⌜ Puts (line (now (word .entry)) (a ∷ b ∷ c ∷ d ∷ [])) (now (out .entry)) at r (now (out .exit)) ⌝ }
 {

@@ -1,8 +1,8 @@
 -- A refusal in one number is taken apart again: its number, the check found and the check worked out. Assumes nothing.
-use Prim.Native.Nat.{ℕ, _+_, _*_, _/_, _%_, _<_}
+use Prim.Native.Nat.{ℕ, _/_, _%_, _<_}
 use mathlib.Core.Path.{_≡_}
 use native.Mathlib.Omega.{arith}
-use Rattle.units.specs.Answers.{withValue, checksValue}
+use Rattle.units.specs.OneNumber.{withValue, checksValue}
 
 -- an answer is a refusal, or none, by its lowest eight bits; what stands above is the value
 pub number-back : (number value : ℕ) → number < 256 → withValue number value % 256 ≡ number

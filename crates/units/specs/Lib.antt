@@ -1,3 +1,3 @@
-pub mod Answers
 pub mod Limits
+pub mod OneNumber
 pub mod Refusals

@@ -6,7 +6,7 @@ pub mod refusals;
 use refusals::HEADER_CHECK_WRONG;
 use refusals::PAYLOAD_CHECK_WRONG;
 ghost use mathlib.Core.Path.{_≡_};
-ghost use Rattle.units.specs.Answers.{withValue, checksValue};
+ghost use Rattle.units.specs.OneNumber.{refusalInOne};
 ghost use Rattle.units.specs.Refusals.{tellsChecks};
 
 // A count of data PDUs.
@@ -31,8 +31,8 @@ pub fn tells_checks(number: u8) -> bool
 }
 
 // A refusal in one number: its own in the lowest eight bits, sixteen for the check found, and above them the check worked out.
-pub fn in_one(r: Refusal) -> u64
-    ensures { λ n. ⌜ n ≡ withValue (r .number) (checksValue (r .found) (r .«worked_out»)) ⌝ }
+pub fn refusal_in_one(r: Refusal) -> u64
+    ensures { λ n. ⌜ n ≡ refusalInOne (r .number) (r .found) (r .«worked_out») ⌝ }
 {
     r.number as u64 + 256 * (r.found as u64 + 65536 * r.worked_out as u64)
 }

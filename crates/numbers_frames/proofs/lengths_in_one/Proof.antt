@@ -10,8 +10,8 @@ read-lengths-requires c κs = search needs
 enum-known-listed : tie.Need-enum-known-listed
 enum-known-listed c = search needs
 
-in-one-requires : tie.Need-in-one-requires
-in-one-requires c κs = search needs
+refusal-in-one-requires : tie.Need-refusal-in-one-requires
+refusal-in-one-requires c κs = search needs
 
 enum-known-listed-2 : tie.Need-enum-known-listed-2
 enum-known-listed-2 c = search needs
@@ -26,7 +26,7 @@ same-length : tie.Need-same-length
 same-length c = search needs
 
 returns : tie.Need-returns
-returns c = listed-refused _ _ _ _ (c .before .before .before .before .before .before .read-lengths .ensures) _ _ (c .before .before .listed .given .1) (c .in-one .ensures)
+returns c = listed-refused _ _ _ _ (c .before .before .before .before .before .before .read-lengths .ensures) _ _ (c .before .before .listed .given .1) (c .refusal-in-one .ensures)
 
 same-length-2 : tie.Need-same-length-2
 same-length-2 c = search needs
@@ -40,7 +40,7 @@ lengths-in-one-spec =
     (tie.spec
     read-lengths-requires
     enum-known-listed
-    in-one-requires
+    refusal-in-one-requires
     enum-known-listed-2
     cast-result
     mul-result

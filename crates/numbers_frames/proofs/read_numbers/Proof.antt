@@ -20,8 +20,8 @@ read-frame-requires c κs = search needs
 enum-known-read : tie.Need-enum-known-read
 enum-known-read c = search needs
 
-in-one-requires : tie.Need-in-one-requires
-in-one-requires c κs = search needs
+refusal-in-one-requires : tie.Need-refusal-in-one-requires
+refusal-in-one-requires c κs = search needs
 
 enum-known-read-2 : tie.Need-enum-known-read-2
 enum-known-read-2 c = search needs
@@ -69,7 +69,7 @@ returns : tie.Need-returns
 unfolding readPaper
 returns c =
     let o = c .before .before in
-    at-case (o .before .before .read-frame .result) (Refused (o .read .given .0 .0)) (o .read .given .1) (o .before .before .read-frame .ensures) (record { says = c .in-one .ensures; leaves = refl })
+    at-case (o .before .before .read-frame .result) (Refused (o .read .given .0 .0)) (o .read .given .1) (o .before .before .read-frame .ensures) (record { says = c .refusal-in-one .ensures; leaves = refl })
 
 same-length : tie.Need-same-length
 same-length c = search needs
@@ -104,7 +104,7 @@ read-numbers-spec =
     (tie.spec
     read-frame-requires
     enum-known-read
-    in-one-requires
+    refusal-in-one-requires
     enum-known-read-2
     cast-put-seven
     cast-put-seven-2

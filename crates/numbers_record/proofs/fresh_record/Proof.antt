@@ -1,5 +1,6 @@
 -- `numbers_record::fresh_record` meets its contract. Assumes nothing.
-use Rattle.numbers_record.proofs.RecordsKept.{no-room, refused-kept, taken-kept, number-of, no-number}
+use Rattle.reception.proofs.AnswersTold.{number-told, no-number}
+use Rattle.numbers_record.proofs.RecordsKept.{no-room, refused-kept, taken-kept}
 use borrow.Author.Needs.{needs}
 use Rattle.numbers_record.proofs.fresh_record.Statement.{statement}
 use Rattle.numbers_record.proofs.fresh_record.Tie as tie
@@ -32,7 +33,7 @@ returns-2 : tie.Need-returns-2
 returns-2 c =
     let f = c .before .before .before .before .before .before .before .before .before .before in
     let e = f .before .before .before .before in
-    refused-kept _ _ _ _ _ _ _ _ (e .if1 .left) (f .fresh .ensures) _ _ (c .before .answer .given .1) (number-of _)
+    refused-kept _ _ _ _ _ _ _ _ (e .if1 .left) (f .fresh .ensures) _ _ (c .before .answer .given .1) (number-told _)
 
 same-length-4 : tie.Need-same-length-4
 same-length-4 c = search needs

@@ -1,11 +1,12 @@
 -- `numbers_record::hear_all` meets its contract. Assumes nothing.
-use Rattle.numbers_record.proofs.RecordsKept.{no-room, refused-kept, taken-kept, none-told, all-told, number-of, no-number}
+use Rattle.reception.proofs.AnswersTold.{number-told, no-number}
+use Rattle.numbers_record.proofs.RecordsKept.{no-room, refused-kept, taken-kept, answers-kept, answers-left}
 use borrow.Author.Needs.{needs}
 use Rattle.numbers_record.proofs.hear_all.Statement.{statement}
 use Rattle.numbers_record.proofs.hear_all.Tie as tie
 
 returns : tie.Need-returns
-returns c = (no-room _ _ _ _ (c .if1 .taken), none-told _ _ _ _ (c .if1 .taken))
+returns c = (no-room _ _ _ _ (c .if1 .taken), answers-kept _ _ _ _ (c .if1 .taken))
 
 hear-sequence-requires : tie.Need-hear-sequence-requires
 hear-sequence-requires c κs = search needs
@@ -36,7 +37,7 @@ returns-2 c =
     let f = c .before .before .before .before .before .before .before .before .before .before .before .before in
     let e = f .before .before .before .before .before in
     let p = f .hear-sequence .ensures in
-    (refused-kept _ _ _ _ _ _ _ _ (e .if1 .left) (p .taken) _ _ (c .before .answer .given .1) (number-of _), all-told _ _ _ _ _ (e .if1 .left) (p .answers))
+    (refused-kept _ _ _ _ _ _ _ _ (e .if1 .left) (p .taken) _ _ (c .before .answer .given .1) (number-told _), answers-left _ _ _ _ _ (e .if1 .left) (p .answers))
 
 same-length-5 : tie.Need-same-length-5
 same-length-5 c = search needs
@@ -59,7 +60,7 @@ returns-3 c =
     let f = w .before .before .before .before .before .before .before .before .before .before .before in
     let e = f .before .before .before .before .before in
     let p = f .hear-sequence .ensures in
-    (taken-kept _ _ _ _ _ _ _ _ (e .if1 .left) (p .taken) _ (w .enum-told .given .1) no-number (c .before .before .put-head .ensures), all-told _ _ _ _ _ (e .if1 .left) (p .answers))
+    (taken-kept _ _ _ _ _ _ _ _ (e .if1 .left) (p .taken) _ (w .enum-told .given .1) no-number (c .before .before .put-head .ensures), answers-left _ _ _ _ _ (e .if1 .left) (p .answers))
 
 pub hear-all-spec : {M : Type 1} → statement M
 hear-all-spec =

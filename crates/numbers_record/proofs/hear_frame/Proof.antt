@@ -1,5 +1,6 @@
 -- `numbers_record::hear_frame` meets its contract. Assumes nothing.
-use Rattle.numbers_record.proofs.RecordsKept.{no-room, refused-kept, taken-kept, answer-of, no-answer}
+use Rattle.reception.proofs.AnswersTold.{answer-told, no-answer}
+use Rattle.numbers_record.proofs.RecordsKept.{no-room, refused-kept, taken-kept}
 use mathlib.Core.Path.{_∙_}
 use borrow.Author.Needs.{needs}
 use Rattle.numbers_record.proofs.hear_frame.Statement.{statement}
@@ -23,8 +24,8 @@ enum-known-answer c = search needs
 enum-told : tie.Need-enum-told
 enum-told c = search needs
 
-in-one-requires : tie.Need-in-one-requires
-in-one-requires c κs = search needs
+refusal-in-one-requires : tie.Need-refusal-in-one-requires
+refusal-in-one-requires c κs = search needs
 
 put-head-requires : tie.Need-put-head-requires
 put-head-requires c κs = search needs
@@ -46,7 +47,7 @@ returns-2 c =
     let f = c .before .before .before .before .before .before .before .before .before .before .before in
     let o = f .before .before .before .before in
     let e = o .before .before in
-    refused-kept _ _ _ _ _ _ _ _ (e .if1 .left) (rw (o .head-of .ensures) at (f .hear .ensures)) _ _ (c .before .before .answer .given .1) (c .in-one .ensures ∙ answer-of _)
+    refused-kept _ _ _ _ _ _ _ _ (e .if1 .left) (rw (o .head-of .ensures) at (f .hear .ensures)) _ _ (c .before .before .answer .given .1) (c .refusal-in-one .ensures ∙ answer-told _)
 
 same-length-5 : tie.Need-same-length-5
 same-length-5 c = search needs
@@ -77,7 +78,7 @@ hear-frame-spec =
     head-of-requires
     hear-requires
     enum-known-answer
-    in-one-requires
+    refusal-in-one-requires
     enum-told
     put-head-requires
     same-length

@@ -10,8 +10,8 @@ use Rattle.numbers_sender.proofs.keep_sent.Tie as tie
 enum-known-answer : tie.Need-enum-known-answer
 enum-known-answer c = search needs
 
-in-one-requires : tie.Need-in-one-requires
-in-one-requires c κs = search needs
+refusal-in-one-requires : tie.Need-refusal-in-one-requires
+refusal-in-one-requires c κs = search needs
 
 enum-known-answer-2 : tie.Need-enum-known-answer-2
 enum-known-answer-2 c = search needs
@@ -25,7 +25,7 @@ mul-result c = omega (arith, done-few _ _ (c .before .before .before .before .be
 returns : tie.Need-returns
 returns c =
     let e = c .before .before .answer .given .1 in
-    (c .in-one .ensures ∙ one-refused _ _ e, sent-refused _ _ _ _ e)
+    (c .refusal-in-one .ensures ∙ one-refused _ _ e, sent-refused _ _ _ _ e)
 
 same-length : tie.Need-same-length
 same-length c = search needs
@@ -40,7 +40,7 @@ keep-sent-spec =
     tie.close
     (tie.spec
     enum-known-answer
-    in-one-requires
+    refusal-in-one-requires
     enum-known-answer-2
     put-state-requires
     mul-result

@@ -12,8 +12,8 @@ enum-told c = search needs
 enum-known-t : tie.Need-enum-known-t
 enum-known-t c = search needs
 
-in-one-requires : tie.Need-in-one-requires
-in-one-requires c κs = search needs
+refusal-in-one-requires : tie.Need-refusal-in-one-requires
+refusal-in-one-requires c κs = search needs
 
 returns : tie.Need-returns
 unfolding takenPaper
@@ -21,7 +21,7 @@ returns c = ap answerOf (sym (c .enum-told .given .1))
 
 returns-2 : tie.Need-returns-2
 unfolding takenPaper
-returns-2 c = c .in-one .ensures ∙ ap answerOf (sym (c .before .before .t .given .1))
+returns-2 c = c .refusal-in-one .ensures ∙ ap answerOf (sym (c .before .before .t .given .1))
 
 pub answer-of-spec : {M : Type 1} → statement M
-answer-of-spec = tie.close (tie.spec enum-told enum-known-t in-one-requires returns returns-2)
+answer-of-spec = tie.close (tie.spec enum-told enum-known-t refusal-in-one-requires returns returns-2)

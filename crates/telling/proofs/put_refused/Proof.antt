@@ -19,11 +19,11 @@ cast-found c = search needs
 cast-worked-out : tie.Need-cast-worked-out
 cast-worked-out c = search needs
 
-slice-aggregate-put-four : tie.Need-slice-aggregate-put-four
-slice-aggregate-put-four c = search needs
+slice-aggregate-put-pairs : tie.Need-slice-aggregate-put-pairs
+slice-aggregate-put-pairs c = search needs
 
-put-four-requires : tie.Need-put-four-requires
-put-four-requires c κs = search needs
+put-pairs-requires : tie.Need-put-pairs-requires
+put-pairs-requires c κs = search needs
 
 same-length : tie.Need-same-length
 same-length c = search needs
@@ -32,7 +32,7 @@ returns : tie.Need-returns
 returns c =
     let w = c .before .before in
     let t = w .before .before .before .before .before in
-    let l = w .put-four .ensures in
+    let l = w .put-pairs .ensures in
     (with-checks _ _ (sym (t .before .tells-checks .ensures) ∙ t .if1 .taken) l, let w = line-within _ _ l in omega arith)
 
 slice-aggregate-put-pair : tie.Need-slice-aggregate-put-pair
@@ -53,4 +53,4 @@ returns-2 c =
 
 pub put-refused-spec : {M : Type 1} → statement M
 put-refused-spec =
-    tie.close (tie.spec cast-number tells-checks-requires cast-found cast-worked-out slice-aggregate-put-four put-four-requires same-length returns slice-aggregate-put-pair put-pair-requires same-length-2 returns-2)
+    tie.close (tie.spec cast-number tells-checks-requires cast-found cast-worked-out slice-aggregate-put-pairs put-pairs-requires same-length returns slice-aggregate-put-pair put-pair-requires same-length-2 returns-2)

@@ -1,9 +1,9 @@
--- `telling::parts::put_four` meets its contract. Assumes nothing.
+-- `telling::parts::put_pairs` meets its contract. Assumes nothing.
 use native.Mathlib.Omega.{arith}
 use borrow.Author.Needs.{needs}
 use Rattle.telling.proofs.LineParts.{begun-within, puts-fourth, puts-ended}
-use Rattle.telling.proofs.parts.put_four.Statement.{statement}
-use Rattle.telling.proofs.parts.put_four.Tie as tie
+use Rattle.telling.proofs.parts.put_pairs.Statement.{statement}
+use Rattle.telling.proofs.parts.put_pairs.Tie as tie
 
 put-three-requires : tie.Need-put-three-requires
 put-three-requires c κs = search needs
@@ -30,6 +30,6 @@ returns c =
     let x = y .before .before .before .before in
     puts-ended _ (omega arith) _ (puts-fourth _ (omega arith) _ _ _ _ (x .put-three .ensures) (y .put-number .ensures)) (z .put-end .ensures)
 
-pub put-four-spec : {M : Type 1} → statement M
-put-four-spec =
+pub put-pairs-spec : {M : Type 1} → statement M
+put-pairs-spec =
     tie.close (tie.spec put-three-requires put-number-requires put-end-requires same-length returns)
