@@ -70,14 +70,18 @@ unfolding takenPaper
 in-front Done ts old e = refl
 in-front (Refused r) ts old e = no-zero (sym e)
 
+-- the list that an accepted call leaves
+pub each-told-in : (bearer period : ℕ) (k : Kept) (frames : List (List ℕ)) (a : Taken) (answers new : List ℕ) → takenPaper a .accepted ≡ 1
+    → new ≡ answersAfter a (answersTo k bearer period frames) answers → EachTold frames new
+unfolding front
+each-told-in bearer period k frames a answers new z l =
+    let ts = answersTo k bearer period frames in
+    let q : new ≡ map answerOf ts ++ drop (length (map answerOf ts)) answers = l ∙ in-front a ts answers z in
+    subst (EachTold frames) (sym q) (all-tell k bearer period frames _)
+
 pub each-tells : (bearer period stamp : ℕ) (old : Kept) (frames : List (List ℕ)) (answers : List ℕ) (r : Taking) (m e s new : List ℕ)
     → HearsSequence (hearSequence bearer period stamp old frames (length answers))
     (answersTo (emptyKept bearer period stamp (length (old .marks))) bearer period frames) answers r m e s new
     → takenPaper (r .answer) .accepted ≡ 1 → EachTold frames new
-unfolding front
 each-tells bearer period stamp old frames answers r m e s new w z =
-    let k = emptyKept bearer period stamp (length (old .marks)) in
-    let ts = answersTo k bearer period frames in
-    let a = hearSequence bearer period stamp old frames (length answers) .answer in
-    let l : new ≡ map answerOf ts ++ drop (length (map answerOf ts)) answers = w .answers ∙ in-front a ts answers (sym (ap accepted-of (w .taken .says)) ∙ z) in
-    subst (EachTold frames) (sym l) (all-tell k bearer period frames _)
+    each-told-in bearer period _ frames _ answers new (sym (ap accepted-of (w .taken .says)) ∙ z) (w .answers)

@@ -17,14 +17,14 @@ one-exported =
           let b = p .leaves-state ∙ sym (q .leaves-state) in
           let c = p .leaves-out ∙ sym (q .leaves-out) in
           λ i. (a i, b i, c i);
-      record-call = λ told old k t x y p q.
+      record-call = λ asNumber old k t x y p q.
           let a = p .says ∙ sym (q .says) in
           let b = p .leaves-head ∙ sym (q .leaves-head) in
           let c = p .leaves-marks ∙ sym (q .leaves-marks) in
           let d = p .leaves-elapsed ∙ sym (q .leaves-elapsed) in
           let e = p .leaves-sizes ∙ sym (q .leaves-sizes) in
           λ i. (a i, b i, c i, d i, e i);
-      hear-all = λ told old k t ts answers x y p q.
+      hear-all = λ asNumber old k t ts answers x y p q.
           let a = p .0 .says ∙ sym (q .0 .says) in
           let b = p .0 .leaves-head ∙ sym (q .0 .leaves-head) in
           let c = p .0 .leaves-marks ∙ sym (q .0 .leaves-marks) in

@@ -69,10 +69,10 @@ unfolding inOne writtenPaper
 state-stays (WriteDone n) old s h = absurd (omega arith)
 state-stays (NotWritten r) old s h = refl
 
-not-taken : (told : Taken → ℕ) → told TakenDone ≡ 0 → (a : Taken) → Refusing (told a) → takenPaper a .accepted ≡ 0
+not-taken : (asNumber : Taken → ℕ) → asNumber TakenDone ≡ 0 → (a : Taken) → Refusing (asNumber a) → takenPaper a .accepted ≡ 0
 unfolding takenPaper
-not-taken told z TakenDone h = absurd (h z)
-not-taken told z (NotTaken r) h = refl
+not-taken asNumber z TakenDone h = absurd (h z)
+not-taken asNumber z (NotTaken r) h = refl
 
 head-stays : (a : Taken) (old : List ℕ) (h : Head) → takenPaper a .accepted ≡ 0 → headAfter a old h ≡ old
 unfolding takenPaper
@@ -110,10 +110,10 @@ gaps-stay (NotReported x) number gaps figures old h = either-way (ltb (length fi
 gaps-stay (ReportDone r) number gaps figures old h = without-room (ltb (length figures) 7) old (front old (map number gaps)) h
 
 -- a record, where what is refused keeps it
-keeps-stay : (told : Taken → ℕ) → told TakenDone ≡ 0 → (old : List ℕ) (k : Kept) (t : Outcome) (r : ℕ) (new m e s : List ℕ)
-    → (takenPaper (t .answer) .accepted ≡ 0 → t .kept ≡ k) → Keeps told old k t r new m e s → Refusing r → SameRecord old k new m e s
-keeps-stay told z old k t r new m e s same w h =
-    let left : r ≡ told (t .answer) → takenPaper (t .answer) .accepted ≡ 0 = λ q. not-taken told z (t .answer) (subst Refusing q h) in (
+keeps-stay : (asNumber : Taken → ℕ) → asNumber TakenDone ≡ 0 → (old : List ℕ) (k : Kept) (t : Outcome) (r : ℕ) (new m e s : List ℕ)
+    → (takenPaper (t .answer) .accepted ≡ 0 → t .kept ≡ k) → Keeps asNumber old k t r new m e s → Refusing r → SameRecord old k new m e s
+keeps-stay asNumber z old k t r new m e s same w h =
+    let left : r ≡ asNumber (t .answer) → takenPaper (t .answer) .accepted ≡ 0 = λ q. not-taken asNumber z (t .answer) (subst Refusing q h) in (
       beyond (ltb (length old) 6) _ _ r old _ new (w .says) (w .leaves-head) (λ q. head-stays (t .answer) old (t .kept .head) (left q)),
       beyond (ltb (length old) 6) _ _ r (k .marks) _ m (w .says) (w .leaves-marks) (λ q. ap (λ (x : Kept). x .marks) (same (left q))),
       beyond (ltb (length old) 6) _ _ r (k .elapsed) _ e (w .says) (w .leaves-elapsed) (λ q. ap (λ (x : Kept). x .elapsed) (same (left q))),

@@ -44,7 +44,7 @@ fresh-leaves bearer period stamp marks elapsed sizes =
 -- a frame heard, by what hearing comes to
 answered-leaves : (k : Kept) (f : List ℕ) (o : Outcome) → Answered k (readFrame f) o → OutcomeLeaves ofHearing k o
 unfolding takenPaper readPaper among
-answered-leaves k f _ unmatched-lists = (refl, λ _. refl)
+answered-leaves k f _ (unmatched-lists u) = (refl, λ _. refl)
 answered-leaves k f _ (unread r e) =
     let c : carries ofReading (r .number) (r .found) (r .«worked_out») 0 ≡ true = rw e at (read-carries f) in
     let q = both (among ofReading (r .number) && among refusals (r .number)) _ c in

@@ -173,7 +173,7 @@ pub record Demand1 : Type 0 where
       → Leaves ofHearingMany old (takenPaper (r .answer)) (keptIn (r .head) m e s)
       × (takenPaper (r .answer) .accepted ≡ 0 → new ≡ answers)
   -- document 02, request 6: "The check routine and everything above it shall give, with refusals 4 and 7, the check found and the check worked
-  -- out", of each call that reads a frame; and what reading refuses, the calls above it refuse so
+  -- out", of each call that reads a frame; and what reading refuses, listing and hearing a frame refuse so
   pub reading-tells : (s : List ℕ) (r : Read) → readPaper r ≡ readPaper (readFrame s)
       → ChecksTold s (readPaper r .number) (readPaper r .found) (readPaper r .worked)
   pub lengths-tell : (s old : List ℕ) (r : Listed) (new : List ℕ) → Lists s old r new → TellsOf s (listedPaper r)

@@ -36,10 +36,10 @@ pub record OneExported : Type 0 where
   pub sender-turn : (old : List ℕ) (t : Turning) → Fixes (λ (o : ℕ × Lent). TurnsState old t (o .0) (o .1))
   pub sender-frame : (old : List ℕ) (t : Dispatch) (frame out : List ℕ) → Fixes (λ (o : ℕ × Lent × Lent). SendsState old t frame out (o .0) (o .1) (o .2))
   -- `quimdoral_fresh` and `quimdoral_hear`; `quimdoral_hear_all`
-  pub record-call : (told : Taken → ℕ) (old : List ℕ) (k : Kept) (t : Outcome)
-      → Fixes (λ (o : ℕ × Lent × Lent × Lent × Lent). Keeps told old k t (o .0) (o .1) (o .2) (o .3) (o .4))
-  pub hear-all : (told : Taken → ℕ) (old : List ℕ) (k : Kept) (t : Outcome) (ts : List Taken) (answers : List ℕ)
-      → Fixes (λ (o : ℕ × Lent × Lent × Lent × Lent × Lent). Keeps told old k t (o .0) (o .1) (o .2) (o .3) (o .4) × AnswersOut old t ts answers (o .5))
+  pub record-call : (asNumber : Taken → ℕ) (old : List ℕ) (k : Kept) (t : Outcome)
+      → Fixes (λ (o : ℕ × Lent × Lent × Lent × Lent). Keeps asNumber old k t (o .0) (o .1) (o .2) (o .3) (o .4))
+  pub hear-all : (asNumber : Taken → ℕ) (old : List ℕ) (k : Kept) (t : Outcome) (ts : List Taken) (answers : List ℕ)
+      → Fixes (λ (o : ℕ × Lent × Lent × Lent × Lent × Lent). Keeps asNumber old k t (o .0) (o .1) (o .2) (o .3) (o .4) × AnswersOut old t ts answers (o .5))
   -- `quimdoral_join`, `quimdoral_report`
   pub join : (old other : List ℕ) (k : Kept) (t : JoinOutcome)
       → Fixes (λ (o : ℕ × Lent × Lent × Lent × Lent). KeepsJoined old other k t (o .0) (o .1) (o .2) (o .3) (o .4))

@@ -1,5 +1,5 @@
--- Document 01's number and values for each case of an answer: "a refusal returns its number and zeros elsewhere"; and document 02's checks
--- with it, in each paper `found` and `worked`. The promises are about these. Assumes nothing.
+-- Document 01's number and values for each case of an answer: "a refusal returns its number and zeros elsewhere"; and the checks of
+-- document 02, request 6, with it, in each paper `found` and `worked`. The promises are about these. Assumes nothing.
 use Prim.Native.Nat.{ℕ}
 use Rattle.frame.specs.declared.Read.{Read}
 use Rattle.frame.specs.declared.Read.the-variants.{Closing, Data, ClosingWithLengths, Refused as NotRead}

@@ -15,8 +15,7 @@ pub record WrongCheck (found worked inFrame byRule : ℕ) : Type 0 where
   pub told-worked : worked ≡ byRule
   pub apart : found ≡ worked → ⊥
 
--- an answer with this number about the frame s: "with refusals 4 and 7, the check found and the check worked out"; "Other refusals return what
--- they did", with zeros in both places
+-- "with refusals 4 and 7, the check found and the check worked out"; "Other refusals return what they did": zeros in both places
 pub record ChecksTold (s : List ℕ) (number found worked : ℕ) : Type 0 where
   pub header : number ≡ headerCheckWrong → WrongCheck found worked (headerCheckIn (control (typeOf s)) s) (headerCheck (take (control (typeOf s)) s))
   pub payload : number ≡ payloadCheckWrong → WrongCheck found worked (payloadCheckIn (control (typeOf s)) s) (payloadCheck (payloadPart (control (typeOf s)) s))

@@ -16,18 +16,18 @@ use Rattle.numbers_head.specs.Heads.{withHead}
 use Rattle.numbers_record.specs.Records.{headAfter, Keeps, AnswersOut}
 
 -- a list too short for a head
-pub no-room : (told : Taken → ℕ) (old : List ℕ) (k : Kept) (t : Outcome) → length old < 6
-    → Keeps told old k t capacitiesDiffer old (k .marks) (k .elapsed) (k .sizes)
-no-room told old k t h =
+pub no-room : (asNumber : Taken → ℕ) (old : List ℕ) (k : Kept) (t : Outcome) → length old < 6
+    → Keeps asNumber old k t capacitiesDiffer old (k .marks) (k .elapsed) (k .sizes)
+no-room asNumber old k t h =
     let q = lt-ltb (length old) 6 h in
     record { says = rw q refl; leaves-head = rw q refl; leaves-marks = rw q refl; leaves-elapsed = rw q refl; leaves-sizes = rw q refl }
 
-module _ (told : Taken → ℕ) (old : List ℕ) (k : Kept) (t : Outcome) (r : Taking) (marks elapsed sizes : List ℕ) (h : 6 ≤ length old) (p : Takes t r marks elapsed sizes) where
+module _ (asNumber : Taken → ℕ) (old : List ℕ) (k : Kept) (t : Outcome) (r : Taking) (marks elapsed sizes : List ℕ) (h : 6 ≤ length old) (p : Takes t r marks elapsed sizes) where
   same : r .answer ≡ t .answer
   same = taken-known (r .answer) (t .answer) (p .says)
 
   -- what the lists hold after, of a promise that is kept
-  kept-as : (x : ℕ) (new : List ℕ) → x ≡ told (r .answer) → new ≡ headAfter (r .answer) old (r .head) → Keeps told old k t x new marks elapsed sizes
+  kept-as : (x : ℕ) (new : List ℕ) → x ≡ asNumber (r .answer) → new ≡ headAfter (r .answer) old (r .head) → Keeps asNumber old k t x new marks elapsed sizes
   kept-as x new e l =
       let w = le-ltb (length old) 6 h in
       record {
@@ -39,12 +39,12 @@ module _ (told : Taken → ℕ) (old : List ℕ) (k : Kept) (t : Outcome) (r : T
       }
 
   -- refused, the head's list stays as it is
-  pub refused-kept : (x : Refusal) (n : ℕ) → r .answer ≡ Refused x → n ≡ told (Refused x) → Keeps told old k t n old marks elapsed sizes
-  refused-kept x n e f = kept-as n old (f ∙ ap told (sym e)) (rw e refl)
+  pub refused-kept : (x : Refusal) (n : ℕ) → r .answer ≡ Refused x → n ≡ asNumber (Refused x) → Keeps asNumber old k t n old marks elapsed sizes
+  refused-kept x n e f = kept-as n old (f ∙ ap asNumber (sym e)) (rw e refl)
 
   -- taken, it has the head's numbers in front
-  pub taken-kept : (new : List ℕ) → r .answer ≡ Done → told Done ≡ 0 → new ≡ withHead old (r .head) → Keeps told old k t 0 new marks elapsed sizes
-  taken-kept new e f l = kept-as 0 new (sym f ∙ ap told (sym e)) (l ∙ rw (e, le-ltb (length old) 6 h) refl)
+  pub taken-kept : (new : List ℕ) → r .answer ≡ Done → asNumber Done ≡ 0 → new ≡ withHead old (r .head) → Keeps asNumber old k t 0 new marks elapsed sizes
+  taken-kept new e f l = kept-as 0 new (sym f ∙ ap asNumber (sym e)) (l ∙ rw (e, le-ltb (length old) 6 h) refl)
 
 -- many answers
 pub answers-kept : (old : List ℕ) (t : Outcome) (ts : List Taken) (answers : List ℕ) → length old < 6 → AnswersOut old t ts answers answers

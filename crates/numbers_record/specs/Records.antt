@@ -20,10 +20,10 @@ abbrev pub headAfter : Taken → List ℕ → Head → List ℕ
 headAfter Done old h = front old (numbersOf h)
 headAfter (Refused r) old h = old
 
--- the promise about a record k whose head stands in the list old, where `told` is how an answer is given as a number: 14 where the list has
+-- the promise about a record k whose head stands in the list old, where `asNumber` is how an answer is given as a number: 14 where the list has
 -- fewer than six numbers, otherwise what t says
-pub record Keeps (told : Taken → ℕ) (old : List ℕ) (k : Kept) (t : Outcome) (r : ℕ) (new marks elapsed sizes : List ℕ) : Type 0 where
-  pub says : r ≡ (capacitiesDiffer when ltb (length old) 6 otherwise told (t .answer))
+pub record Keeps (asNumber : Taken → ℕ) (old : List ℕ) (k : Kept) (t : Outcome) (r : ℕ) (new marks elapsed sizes : List ℕ) : Type 0 where
+  pub says : r ≡ (capacitiesDiffer when ltb (length old) 6 otherwise asNumber (t .answer))
   pub leaves-head : new ≡ (old when ltb (length old) 6 otherwise headAfter (t .answer) old (t .kept .head))
   pub leaves-marks : marks ≡ (k .marks when ltb (length old) 6 otherwise t .kept .marks)
   pub leaves-elapsed : elapsed ≡ (k .elapsed when ltb (length old) 6 otherwise t .kept .elapsed)

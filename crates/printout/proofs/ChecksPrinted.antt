@@ -1,4 +1,4 @@
--- What is printed of a refused frame: with 4 and 7 the check that stands in it and the one that the rule gives, otherwise the number alone.
+-- What is printed of a refused frame: with 4 and 7 the check that stands in it and the one that the rule gives, otherwise no check.
 -- Assumes nothing.
 use Prim.Native.Nat.{ℕ}
 use mathlib.Core.Path.{_≡_, refl}
@@ -18,17 +18,17 @@ use Rattle.telling.specs.Account.{refusedWord}
 use Rattle.printout.specs.Printed.{Between, answerText, heardIn}
 
 module _ (b : Between) (f : List ℕ) (place : ℕ) (r : Refusal) (e : heardIn b f .answer ≡ Refused r) where
-  told : ChecksTold f (r .number) (r .found) (r .«worked_out»)
+  frame-told : ChecksTold f (r .number) (r .found) (r .«worked_out»)
   unfolding takenPaper
-  told = rw e at (heard-checks (b .kept) (b .kept .head .bearer) (b .kept .head .period) f)
+  frame-told = rw e at (heard-checks (b .kept) (b .kept .head .bearer) (b .kept .head .period) f)
 
   pub header-printed : r .number ≡ headerCheckWrong
       → answerText place (heardIn b f .answer) ≡ line refusedWord (place ∷ headerCheckWrong ∷ headerCheckIn (control (typeOf f)) f ∷ headerCheck (take (control (typeOf f)) f) ∷ [])
-  header-printed n = rw (e, n, told .header n .told-found, told .header n .told-worked) refl
+  header-printed n = rw (e, n, frame-told .header n .told-found, frame-told .header n .told-worked) refl
 
   pub payload-printed : r .number ≡ payloadCheckWrong
       → answerText place (heardIn b f .answer) ≡ line refusedWord (place ∷ payloadCheckWrong ∷ payloadCheckIn (control (typeOf f)) f ∷ payloadCheck (payloadPart (control (typeOf f)) f) ∷ [])
-  payload-printed n = rw (e, n, told .payload n .told-found, told .payload n .told-worked) refl
+  payload-printed n = rw (e, n, frame-told .payload n .told-found, frame-told .payload n .told-worked) refl
 
   pub number-printed : tellsChecks (r .number) ≡ false → answerText place (heardIn b f .answer) ≡ line refusedWord (place ∷ r .number ∷ [])
   number-printed t = rw (e, t) refl

@@ -2,14 +2,14 @@
 -- Assumes nothing.
 use Prim.Native.Nat.{ℕ}
 use mathlib.Core.Path.{_≡_, refl, sym}
-use mathlib.Core.Bool.{false}
+use mathlib.Core.Bool.{true, false}
 use mathlib.Core.List.{List}
 use lib.Dec.{ltb, leb}
 use lib.ListN.{length}
 use Rattle.units.specs.declared.Refusal.{Refusal}
 use Rattle.units.specs.Refusals.{otherSequence, beyondCapacity, contradiction, recordDamaged, capacitiesDiffer}
 use Rattle.fields.specs.Choice.{_when_otherwise_}
-use Rattle.fields.proofs.Choosing.{whichever}
+use Rattle.fields.proofs.Choosing.{whichever, tested}
 use Rattle.frame.specs.declared.ClosingPdu.{ClosingPdu}
 use Rattle.frame.specs.declared.DataPdu.{DataPdu}
 use Rattle.frame.specs.declared.Read.{Read}
@@ -35,7 +35,7 @@ WasRead x = (r : Refusal) → x ≡ NotRead r → ⊥
 
 -- what becomes of a record k and a frame that was read as x; refused, the record stays
 pub data Answered (k : Kept) (x : Read) : Outcome → Type 0 where
-  unmatched-lists : Answered k x (refuses k capacitiesDiffer)
+  unmatched-lists : unmatched k ≡ true → Answered k x (refuses k capacitiesDiffer)
   unread : (r : Refusal) → x ≡ NotRead r → Answered k x (record { answer = Refused r; kept = k })
   withheld : (n : ℕ) → OfRecord n → WasRead x → Answered k x (refuses k n)
   taken : (next : Kept) → WasRead x → Answered k x (takes next)
@@ -78,7 +78,7 @@ module _ (k : Kept) (bearer period : ℕ) where
 
   pub heard-told : (f : List ℕ) → Answered k (readFrame f) (hearFrame k bearer period f)
   unfolding hearFrame
-  heard-told f = whichever (Answered k (readFrame f)) _ _ (unmatched k) unmatched-lists (λ _. read-answered (readFrame f))
+  heard-told f = tested (Answered k (readFrame f)) _ _ (unmatched k) unmatched-lists (λ _. read-answered (readFrame f))
 
   -- where the lists match, what reading refused is refused so
   pub handed-on : (f : List ℕ) (r : Refusal) → unmatched k ≡ false → readFrame f ≡ NotRead r
@@ -89,7 +89,7 @@ module _ (k : Kept) (bearer period : ℕ) where
 -- so hearing tells of the checks of a frame what reading tells
 answer-checks : (k : Kept) (f : List ℕ) (o : Outcome) → Answered k (readFrame f) o → TellsOf f (takenPaper (o .answer))
 unfolding takenPaper
-answer-checks k f _ unmatched-lists = zeros-told f 14 refl
+answer-checks k f _ (unmatched-lists u) = zeros-told f 14 refl
 answer-checks k f _ (unread r e) = refusal-told f r e
 answer-checks k f _ (withheld _ damaged w) = zeros-told f 13 refl
 answer-checks k f _ (withheld _ other w) = zeros-told f 9 refl

@@ -17,7 +17,7 @@ done-not-refused r e =
     omega arith
 
 left : (k : Kept) (x : Read) (o : Outcome) → Answered k x o → (r : Refusal) → o .answer ≡ Refused r → o .kept ≡ k
-left k x _ unmatched-lists r e = refl
+left k x _ (unmatched-lists u) r e = refl
 left k x _ (unread q p) r e = refl
 left k x _ (withheld n p w) r e = refl
 left k x _ (taken next w) r e = absurd (done-not-refused r e)

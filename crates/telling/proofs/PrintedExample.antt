@@ -123,7 +123,7 @@ pub refused-printed : refusedLine 2 (refusing 8) ≡ 114 ∷ 101 ∷ 102 ∷ 117
 unfolding digitsWithin decimal field fieldsOf line
 refused-printed = refl
 
--- "refused 4 7 514 49": example D as it is printed
+-- "refused 4 7 514 49": example D as document 01 prints it
 pub checks-printed : refusedLine 4 (refusingCheck 7 514 49)
     ≡ 114 ∷ 101 ∷ 102 ∷ 117 ∷ 115 ∷ 101 ∷ 100 ∷ 32 ∷ 52 ∷ 32 ∷ 55 ∷ 32 ∷ 53 ∷ 49 ∷ 52 ∷ 32 ∷ 52 ∷ 57 ∷ 10 ∷ []
 unfolding digitsWithin decimal field fieldsOf line

@@ -69,7 +69,7 @@ accountText k = sequenceLine (k .head) ++ figureLines (heldBy k) ++ gapLines (ga
 abbrev pub checksOf : Refusal → List ℕ
 checksOf r = (r .found ∷ r .«worked_out» ∷ []) when tellsChecks (r .number) otherwise []
 
--- "a refused one prints "refused", its place among all items from 1, its number"
+-- "a refused one prints "refused", its place among all items from 1, its number"; with 4 and 7 the checks behind it
 abbrev pub refusedLine : ℕ → Refusal → List ℕ
 refusedLine place r = line refusedWord (place ∷ r .number ∷ checksOf r)
 

@@ -103,7 +103,7 @@ refusals =
 abbrev pub tellsChecks : ℕ → Bool
 tellsChecks n = eqb n headerCheckWrong || eqb n payloadCheckWrong
 
--- "shall give, with refusals 4 and 7, the check found and the check worked out"
+-- document 02, request 6: "shall give, with refusals 4 and 7, the check found and the check worked out"
 abbrev pub refusingCheck : ℕ → ℕ → ℕ → Refusal
 refusingCheck n found worked = record { number = n; found = found; «worked_out» = worked }
 

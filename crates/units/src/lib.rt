@@ -23,7 +23,7 @@ pub struct Refusal {
     pub worked_out: u16,
 }
 
-// Whether a refusal tells of a check. Its number decides: both checks of such a refusal may be any, and either may be 0.
+// Whether a refusal tells of a check. Its number decides, not the checks: either of them may be 0.
 pub fn tells_checks(number: u8) -> bool
     ensures { λ r. ⌜ r ≡ tellsChecks number ⌝ }
 {
