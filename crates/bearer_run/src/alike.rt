@@ -5,6 +5,7 @@ use sender::Phase;
 use sender::Sender;
 use sender::Turned;
 use sender::Turning;
+use units::refusal_in_one;
 
 // The two senders, each advanced in its own way.
 pub struct Both {
@@ -12,7 +13,7 @@ pub struct Both {
     pub in_place: Sender,
 }
 
-// What a call gave: the number of its refusal or 0, how many octets it wrote, and the sender after it.
+// What a call gave: its refusal in one number or 0, how many octets it wrote, and the sender after it.
 pub struct Gave {
     pub number: u64,
     pub octets: u64,
@@ -24,7 +25,7 @@ pub fn of_turn(t: Turning) -> Gave {
     let answer = t.answer;
     let number = match answer {
         Turned::Done => 0,
-        Turned::Refused(r) => r.number as u64,
+        Turned::Refused(r) => refusal_in_one(r),
     };
     Gave {
         number,
@@ -41,7 +42,7 @@ pub fn of_frame(answer: Written, sender: Sender) -> Gave {
             sender,
         },
         Written::Refused(r) => Gave {
-            number: r.number as u64,
+            number: refusal_in_one(r),
             octets: 0,
             sender,
         },

@@ -5,9 +5,11 @@ use mathlib.Core.Bool.{false}
 use mathlib.Core.List.{List, [], _∷_, _++_, map}
 use lib.Dec.{ltb}
 use lib.ListN.{length, drop}
+use borrow.Author.Tests.{ltb-false}
 use Rattle.units.specs.declared.Refusal.{Refusal}
+use Rattle.units.specs.Limits.{lastStamp}
 use Rattle.fields.specs.Runs.{front}
-use Rattle.fields.proofs.Choosing.{whichever}
+use Rattle.fields.proofs.Choosing.{whichever, tested}
 use Rattle.frame.specs.declared.Read.{Read}
 use Rattle.frame.specs.declared.Read.the-variants.{Closing, Data, ClosingWithLengths, Refused as NotRead}
 use Rattle.frame.specs.declared.Listed.{Listed}
@@ -25,7 +27,10 @@ use Rattle.reception.specs.declared.Taking.{Taking}
 use Rattle.reception.specs.Hearing.{Kept, Outcome, unmatched, emptyKept, hearFrame, takenPaper, Takes}
 use Rattle.reception.specs.Several.{answerOf, answersTo, answersAfter, hearSequence}
 use Rattle.reception.proofs.HeardTold.{handed-on, heard-checks}
+use Rattle.reception.proofs.HearingUndamaged.{empty-sound, stays-sound}
+use Rattle.reception.proofs.KeptAsHeld.{lists-matched}
 use Rattle.reception.proofs.OnePaper.{taken-known}
+use Rattle.reception.proofs.WhatHearingAdds.{Sound}
 use Rattle.several.specs.Rest.{HearsSequence}
 use Rattle.demands.specs.Demand1.{EachTold}
 use Rattle.demands.specs.Demand1.EachTold.{none, told}
@@ -57,13 +62,30 @@ pub takes-hand-on : (k : Kept) (bearer period : ℕ) (f : List ℕ) (r : Taking)
     → unmatched k ≡ false → (q : Refusal) → readFrame f ≡ NotRead q → r .answer ≡ Refused q
 takes-hand-on k bearer period f r m e s w u q p = taken-known (r .answer) _ (w .says) ∙ ap (λ (o : Outcome). o .answer) (handed-on k bearer period f q u p)
 
--- many frames heard
-all-tell : (k : Kept) (bearer period : ℕ) (frames : List (List ℕ)) (rest : List ℕ) → EachTold frames (map answerOf (answersTo k bearer period frames) ++ rest)
+-- many frames heard, into a record that is sound and stays so
+all-tell : (k : Kept) (bearer period : ℕ) → Sound k → (frames : List (List ℕ)) (rest : List ℕ)
+    → EachTold frames (map answerOf (answersTo k bearer period frames) ++ rest)
 unfolding answersTo
-all-tell k bearer period [] rest = none
-all-tell k bearer period (f ∷ fs) rest =
+all-tell k bearer period s [] rest = none
+all-tell k bearer period s (f ∷ fs) rest =
     let o = hearFrame k bearer period f in
-    told (o .answer) (hear-leaves k bearer period f .0) (heard-checks k bearer period f) (all-tell (o .kept) bearer period fs rest)
+    told (o .answer) (hear-leaves k bearer period f .0) (heard-checks k bearer period f)
+    (λ q e. ap (λ (x : Outcome). x .answer) (handed-on k bearer period f q (s .matched) e)) (all-tell (o .kept) bearer period (stays-sound k bearer period f s) fs rest)
+
+-- an accepted call made an empty record
+pub sequence-sound : (bearer period stamp : ℕ) (old : Kept) (frames : List (List ℕ)) (room : ℕ)
+    → takenPaper (hearSequence bearer period stamp old frames room .answer) .accepted ≡ 1 → Sound (emptyKept bearer period stamp (length (old .marks)))
+unfolding hearSequence takenPaper
+sequence-sound bearer period stamp old frames room =
+    tested Accepts _ _ (unmatched old) (λ _ z. no-zero (sym z))
+    (λ u.
+    tested Accepts _ _ (ltb lastStamp stamp) (λ _ z. no-zero (sym z))
+    (λ h.
+    whichever Accepts _ _ (ltb room (length frames)) (λ z. no-zero (sym z))
+    (λ _ _. empty-sound bearer period stamp (length (old .marks)) (ltb-false lastStamp stamp h) (lists-matched (old .marks) (old .elapsed) (old .sizes) u .room))))
+  where
+    Accepts : Outcome → Type 0
+    Accepts o = takenPaper (o .answer) .accepted ≡ 1 → Sound (emptyKept bearer period stamp (length (old .marks)))
 
 in-front : (a : Taken) (ts : List Taken) (old : List ℕ) → takenPaper a .accepted ≡ 1 → answersAfter a ts old ≡ front old (map answerOf ts)
 unfolding takenPaper
@@ -71,17 +93,18 @@ in-front Done ts old e = refl
 in-front (Refused r) ts old e = no-zero (sym e)
 
 -- the list that an accepted call leaves
-pub each-told-in : (bearer period : ℕ) (k : Kept) (frames : List (List ℕ)) (a : Taken) (answers new : List ℕ) → takenPaper a .accepted ≡ 1
+pub each-told-in : (bearer period : ℕ) (k : Kept) → Sound k → (frames : List (List ℕ)) (a : Taken) (answers new : List ℕ) → takenPaper a .accepted ≡ 1
     → new ≡ answersAfter a (answersTo k bearer period frames) answers → EachTold frames new
 unfolding front
-each-told-in bearer period k frames a answers new z l =
+each-told-in bearer period k s frames a answers new z l =
     let ts = answersTo k bearer period frames in
     let q : new ≡ map answerOf ts ++ drop (length (map answerOf ts)) answers = l ∙ in-front a ts answers z in
-    subst (EachTold frames) (sym q) (all-tell k bearer period frames _)
+    subst (EachTold frames) (sym q) (all-tell k bearer period s frames _)
 
 pub each-tells : (bearer period stamp : ℕ) (old : Kept) (frames : List (List ℕ)) (answers : List ℕ) (r : Taking) (m e s new : List ℕ)
     → HearsSequence (hearSequence bearer period stamp old frames (length answers))
     (answersTo (emptyKept bearer period stamp (length (old .marks))) bearer period frames) answers r m e s new
     → takenPaper (r .answer) .accepted ≡ 1 → EachTold frames new
 each-tells bearer period stamp old frames answers r m e s new w z =
-    each-told-in bearer period _ frames _ answers new (sym (ap accepted-of (w .taken .says)) ∙ z) (w .answers)
+    let a = sym (ap accepted-of (w .taken .says)) ∙ z in
+    each-told-in bearer period _ (sequence-sound bearer period stamp old frames (length answers) a) frames _ answers new a (w .answers)

@@ -22,13 +22,13 @@ use Rattle.frame.specs.Paper.{readPaper, listedPaper}
 use Rattle.frame.specs.Reading.{headerWrong, lengthWrong, checkWrong, countsWrong, said, readBody, readHeaded, readFrame}
 use Rattle.frame.specs.WrongChecks.{ChecksTold}
 use Rattle.frame.proofs.ChecksTold.{zeros-told, read-told}
-use Rattle.reception.specs.Hearing.{Kept, Outcome, unused, emptyKept, unmatched, hearFrame, takenPaper}
+use Rattle.reception.specs.Hearing.{Kept, Outcome, unused, unmatched, hearFrame, takenPaper}
 use Rattle.reception.specs.Several.{refusalNumber, hearSequence}
 use Rattle.reception.proofs.HeardTold.{Answered, unmatched-lists, unread, withheld, taken, damaged, other, beyond, contradicting, heard-told, heard-checks}
 use Rattle.numbers.specs.Answers.{inOne}
 use Rattle.demands.specs.ExportedRefusals.{RefusingInOne}
 use Rattle.demands.specs.ExportedChecks.{TellsInOne, InOctets, ToldExported}
-use Rattle.demands.proofs.ChecksAnswered.{each-told-in}
+use Rattle.demands.proofs.ChecksAnswered.{sequence-sound, each-told-in}
 
 -- taken taken-apart again
 taken-apart : (s : List ℕ) (n found worked : ℕ) → n < 256 → found < 65536 → ChecksTold s n found worked → TellsInOne s (refusalInOne n found worked)
@@ -133,5 +133,6 @@ told-exported =
           subst (TellsInOne f) (sym (w .says)) (whichever (TellsInOne f) _ _ (ltb (length old) 6) (zeros-told f 14 refl) (λ _. hearing-told f o _ bearer period));
       hear-all = λ bearer period stamp frames old m e s answers r new m′ e′ s′ answers′ w v z.
           let l = list-left (ltb (length old) 6) r _ answers _ answers′ (w .says) (v .leaves-answers) z in
-          each-told-in bearer period (emptyKept bearer period stamp (length m)) frames _ answers answers′ (zero-accepted bearer period stamp (unused m e s) frames (length answers) (l .0)) (l .1);
+          let a = zero-accepted bearer period stamp (unused m e s) frames (length answers) (l .0) in
+          each-told-in bearer period _ (sequence-sound bearer period stamp (unused m e s) frames (length answers) a) frames _ answers answers′ a (l .1);
     }

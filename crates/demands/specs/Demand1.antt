@@ -134,15 +134,17 @@ TurnsOn numbers s r =
 abbrev pub Leaves : List ℕ → Kept → CountPaper → Kept → Type 0
 Leaves numbers old p new = (carriesAs numbers p ≡ true) × (p .accepted ≡ 0 → new ≡ old)
 
--- the answers to many frames, each in one number, in front of a list: each carries its number, and tells of its own frame's checks
+-- the answers to many frames, each in one number, in front of a list: each carries its number, tells of its own frame's checks, and is
+-- reading's refusal where reading refused
 pub data EachTold : List (List ℕ) → List ℕ → Type 0 where
   none : {rest : List ℕ} → EachTold [] rest
-  told : {f : List ℕ} {fs : List (List ℕ)} {ns : List ℕ} (t : Taken) → carriesAs ofHearing (takenPaper t) ≡ true
-      → TellsOf f (takenPaper t) → EachTold fs ns → EachTold (f ∷ fs) (answerOf t ∷ ns)
+  told : {f : List ℕ} {fs : List (List ℕ)} {ns : List ℕ} (t : Taken) → carriesAs ofHearing (takenPaper t) ≡ true → TellsOf f (takenPaper t)
+      → ((q : Refusal) → readFrame f ≡ NotRead q → t ≡ NotTaken q) → EachTold fs ns → EachTold (f ∷ fs) (answerOf t ∷ ns)
 
 -- the demand, call by call: of any outcome that meets the promise
 pub record Demand1 : Type 0 where
-  pub reading : (s : List ℕ) (r : Read) → readPaper r ≡ readPaper (readFrame s) → carries ofReading (readPaper r .number) (readPaper r .found) (readPaper r .worked) (readPaper r .kind) ≡ true
+  pub reading : (s : List ℕ) (r : Read) → readPaper r ≡ readPaper (readFrame s)
+      → carries ofReading (readPaper r .number) (readPaper r .found) (readPaper r .worked) (readPaper r .kind) ≡ true
   pub lengths : (s old : List ℕ) (r : Listed) (new : List ℕ) → Lists s old r new → WritesOn ofLengths (listedPaper r) old new
   pub writing-data : (stamp n e : ℕ) (p old : List ℕ) (r : Written) (new : List ℕ)
       → Wrote (writeData stamp n e (length p) (length old)) (dataFrame stamp n e p) old r new → WritesOn ofWritingData (writtenPaper r) old new
@@ -173,7 +175,7 @@ pub record Demand1 : Type 0 where
       → Leaves ofHearingMany old (takenPaper (r .answer)) (keptIn (r .head) m e s)
       × (takenPaper (r .answer) .accepted ≡ 0 → new ≡ answers)
   -- document 02, request 6: "The check routine and everything above it shall give, with refusals 4 and 7, the check found and the check worked
-  -- out", of each call that reads a frame; and what reading refuses, listing and hearing a frame refuse so
+  -- out", of each call that reads a frame; and what reading refuses, the calls above it refuse so
   pub reading-tells : (s : List ℕ) (r : Read) → readPaper r ≡ readPaper (readFrame s)
       → ChecksTold s (readPaper r .number) (readPaper r .found) (readPaper r .worked)
   pub lengths-tell : (s old : List ℕ) (r : Listed) (new : List ℕ) → Lists s old r new → TellsOf s (listedPaper r)
