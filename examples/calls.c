@@ -1,6 +1,7 @@
 /*
- * Every function of quimdoral.h, called once or more on the bench examples A to D and I of the rules: include/compare has compared the
- * declarations, and this calls what was linked. Prints nothing but what is wrong, and ends with status 0 only if nothing is.
+ * Every function of quimdoral.h, called once or more on the bench examples A to D and I of the rules, and on a packet with an extension:
+ * include/compare has compared the declarations, and this calls what was linked. Prints nothing but what is wrong, and ends with status 0
+ * only if nothing is.
  */
 #include <stdio.h>
 #include <string.h>
@@ -14,6 +15,9 @@ static const uint8_t d[] = {0x30, 0, 0, 0, 1, 0, 0, 0, 1, 0, 0, 1, 0, 0, 0, 0, 1
 /* C with the first bit of its header check turned, and D with the payload check that document 01 prints: each has one wrong check. */
 static const uint8_t c_wrong[] = {0, 0, 0, 0, 1, 0, 0, 0, 1, 0, 0, 1, 0, 0, 0, 0, 1, 0x1C};
 static const uint8_t d_wrong[] = {0x30, 0, 0, 0, 1, 0, 0, 0, 1, 0, 0, 1, 0, 0, 0, 0, 1, 0x02, 0x02, 0x00, 0x10};
+/* A data PDU with an IPv4 packet of 20 octets, its header alone, and an extension of two octets behind it. */
+static const uint8_t extended[] = {0x10, 0, 0, 0, 0, 0, 0, 0, 0, 0x3B, 0x98,
+                                   0x45, 0, 0, 0x14, 0, 0, 0, 0, 0, 0, 0, 0, 0, 0, 0, 0, 0, 0, 0, 0, 0xAA, 0xBB};
 static const uint8_t payload[] = {0x01};
 static const uint16_t lengths[] = {1};
 static int wrong;
@@ -180,6 +184,28 @@ static void hearing_wrong_checks(void)
     expect(head[QUIMDORAL_HEAD_CLOSED] == 0, "wrong checks among others leave a record");
 }
 
+/* What stands behind an IP packet is written, and then dropped: who reads and who hears gets the packet alone. */
+static void extension_dropped(void)
+{
+    const uint8_t *packet = extended + QUIMDORAL_DATA_SIZE(0u);
+    const size_t there = sizeof extended - QUIMDORAL_DATA_SIZE(0u);
+    uint64_t head[6], said[7], cut;
+    uint8_t marks[1], out[sizeof extended + 1];
+    uint32_t elapsed[1];
+    uint16_t sizes[1];
+
+    expect(there == 22 && quimdoral_payload_kept(packet, there) == 20, "two octets behind a packet are not kept");
+    expect(quimdoral_payload_kept(packet, 20) == 20 && quimdoral_payload_kept(packet, 19) == 19, "a whole packet, and one cut short");
+    memset(out, 0xEE, sizeof out);
+    expect_frame(quimdoral_write_data(0, 0, 0, packet, there, out, sizeof out), out, extended, sizeof extended, "all of it written");
+    expect(quimdoral_read_frame(out, sizeof extended, said, 7) == 0 && said[QUIMDORAL_SAID_PAYLOAD] == 20, "the packet read");
+    expect(quimdoral_fresh(7, 3, 0, head, 6, marks, 1, elapsed, 1, sizes, 1) == 0, "a fresh record for the packet");
+    expect(quimdoral_hear(head, 6, marks, 1, elapsed, 1, sizes, 1, 7, 3, out, sizeof extended) == 0 && sizes[0] == 20, "the packet heard");
+    cut = quimdoral_read_frame(out, sizeof extended - 1, said, 7);
+    expect(QUIMDORAL_REFUSAL(cut) == QUIMDORAL_PAYLOAD_CHECK_WRONG && QUIMDORAL_FOUND(cut) == 0x398
+           && QUIMDORAL_WORKED_OUT(cut) == quimdoral_payload_check(packet, there - 1), "the check covers the extension");
+}
+
 /* A join of a record with a copy of itself changes nothing; in place, it would write to what it reads. */
 static void joined_with_itself(void)
 {
@@ -235,6 +261,7 @@ static void nothing_lent(void)
     expect(quimdoral_header_check(octets, 0) == 0 && quimdoral_payload_check(octets, 0) == 0, "the checks of no octets");
     expect(quimdoral_read_frame(octets, 0, gap_octets, 0) == QUIMDORAL_TOO_SHORT, "a frame of no octets");
     expect(quimdoral_read_lengths(a, sizeof a, sizes, 0) == 0, "no lengths in A");
+    expect(quimdoral_payload_kept(octets, 0) == 0, "nothing to keep");
     expect_frame(quimdoral_write_data(0, 0, 0, octets, 0, out, sizeof out), out, a, sizeof a, "A written with nothing");
     expect(quimdoral_write_data(0, 0, 0, octets, 0, marks, 0) == QUIMDORAL_NO_ROOM, "A without room");
     expect(QUIMDORAL_VALUE(quimdoral_write_closing_with_lengths(0, 0, 0, 0, 0, no_lengths, 0, out, sizeof out))
@@ -271,6 +298,7 @@ int main(void)
     sending();
     records();
     hearing_wrong_checks();
+    extension_dropped();
     joined_with_itself();
     lending();
     nothing_lent();

@@ -96,7 +96,7 @@ enum {
 #define QUIMDORAL_LAST_STAMP 59999u                 /* units of 10 ms */
 #define QUIMDORAL_MOST_PERIOD_PACKETS 16777215u
 
-/* Octets of a frame: Type 0; Type 1 with a payload of so many octets; Type 3 with so many lengths, as it is written. */
+/* Octets of a frame: Type 0; as they are written, Type 1 with a payload of so many octets, and Type 3 with so many lengths. */
 #define QUIMDORAL_CLOSING_SIZE 18u
 #define QUIMDORAL_DATA_SIZE(payload_length) (11u + (payload_length))
 #define QUIMDORAL_LENGTHS_SIZE(count) (19u + (3u * (count) + 1u) / 2u)
@@ -118,6 +118,9 @@ uint16_t quimdoral_payload_check(const uint8_t *octets, size_t octets_length);
  * Answers 0, or a refusal's number, in this order: 1 (empty), 2, 3, 1 (too short), 4, 5, 6, 7, 8, then 12 where `said` has fewer than
  * seven places. With 4 and 7 the answer has a value: the check found and the check worked out. `frame` is only read. A data PDU has no
  * totals, a closing PDU no payload: zeros stand there.
+ *
+ * Up to four octets behind an IP packet are an extension (clause 5.5.3.14): they are dropped, and 6 judges the payload without them. The
+ * payload check covers them too. quimdoral_payload_kept, below, says when there are such octets.
  */
 enum {
     QUIMDORAL_SAID_KIND = 0,     /* one more than the PDU type: 1 closing, 2 data, 4 closing with lengths */
@@ -126,7 +129,8 @@ enum {
     QUIMDORAL_SAID_ELAPSED = 3,  /* their octets */
     QUIMDORAL_SAID_PACKETS = 4,  /* closing: packets of the period */
     QUIMDORAL_SAID_OCTETS = 5,   /* closing: octets of the period */
-    QUIMDORAL_SAID_PAYLOAD = 6,  /* data: octets of its payload, which stands from the twelfth octet of the frame on */
+    QUIMDORAL_SAID_PAYLOAD = 6,  /* data: octets of its payload, which stands from the twelfth octet of the frame on; up to four octets
+                                    behind an IP packet are not counted */
     QUIMDORAL_SAID_NUMBERS = 7
 };
 uint64_t quimdoral_read_frame(const uint8_t *frame, size_t frame_length, uint64_t *said, size_t said_length);
@@ -141,13 +145,28 @@ uint64_t quimdoral_read_frame(const uint8_t *frame, size_t frame_length, uint64_
 uint64_t quimdoral_read_lengths(const uint8_t *frame, size_t frame_length, uint16_t *lengths, size_t lengths_length);
 
 /*
+ * quimdoral_payload_kept: how many octets of a payload a reader takes. Answers the number itself, and refuses nothing. `payload` is only
+ * read.
+ *
+ * Where `payload` begins as an IPv4 or IPv6 packet, and 0 to 4 octets stand behind the length that its IP header states (IPv4: the total
+ * length; IPv6: the payload length and 40), the answer is that length, and the octets behind it are an extension, which whoever reads or
+ * hears the frame drops. Otherwise it is `payload_length`: where the header is incomplete (fewer than 20 octets of IPv4, or 40 of IPv6),
+ * has another version or an IHL under 5, or states less than its own header, more than is there, or over four octets less. Nothing else
+ * of the header is judged.
+ *
+ * Ask it of what is to be sent: a payload that is an IP packet with one to four octets behind it is written whole and read back shorter.
+ */
+uint64_t quimdoral_payload_kept(const uint8_t *payload, size_t payload_length);
+
+/*
  * ------------------------------------------------------------------------------------- Writing frames from given fields
  *
  * For callers that count for themselves; the sender below counts. Each writes a frame in front of `out` and answers a value: how many
  * octets it has. Fields are given wider than the frame has them, so that what does not fit is refused and not cut.
  *
  * quimdoral_write_data: a data PDU (Type 1). `number` and `elapsed` count the packets of its sequence before it and their octets.
- * Refuses in this order: 5, 20, 8 (number of 65,535 or more, or elapsed above 4,095 times the number), 12. `payload` is only read.
+ * Refuses in this order: 5, 20, 8 (number of 65,535 or more, or elapsed above 4,095 times the number), 12. `payload` is only read. One
+ * that is an IP packet with one to four octets behind it is written whole and read back shorter; quimdoral_payload_kept tells before.
  */
 uint64_t quimdoral_write_data(uint32_t stamp, uint32_t number, uint64_t elapsed, const uint8_t *payload, size_t payload_length,
                               uint8_t *out, size_t out_length);
@@ -196,7 +215,10 @@ uint8_t quimdoral_sender_fresh(uint64_t *state, size_t state_length);
 uint8_t quimdoral_sender_open(uint64_t *state, size_t state_length, uint32_t stamp);
 
 /* quimdoral_sender_data: sends a data PDU, within a sequence: writes a Type 1 frame in front of `out`, and counts the packet and the octets
- * of `payload`, which is only read. Answers a value: how many octets the frame has. Refuses in this order: 21, 15, 20, 17, 18, 12. */
+ * of `payload`, which is only read. Answers a value: how many octets the frame has. Refuses in this order: 21, 15, 20, 17, 18, 12.
+ *
+ * A payload that is an IP packet with one to four octets behind it is sent and counted whole, and heard shorter, so that the frames behind
+ * it contradict it. Give such a packet without these octets: quimdoral_payload_kept tells how many to give. */
 uint64_t quimdoral_sender_data(uint64_t *state, size_t state_length, const uint8_t *payload, size_t payload_length,
                                uint8_t *out, size_t out_length);
 
@@ -226,7 +248,7 @@ uint8_t quimdoral_sender_new_period(uint64_t *state, size_t state_length);
  *
  *   marks[n]    1 where packet n was heard, 0 where not
  *   elapsed[n]  the octets of the packets before it, 0 where not heard
- *   sizes[n]    the octets of its payload, 0 where not heard
+ *   sizes[n]    the octets of its payload, an extension not counted, 0 where not heard
  */
 enum {
     QUIMDORAL_HEAD_BEARER = 0,

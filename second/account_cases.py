@@ -1,4 +1,5 @@
-"""Inputs for the printed account: sequences with losses, repeats and disorder, contradictions, hostile frames and bad input.
+"""Inputs for the printed account: sequences with losses, repeats and disorder, contradictions, hostile frames, bad input, and IP packets
+with octets behind them.
 
 A case by hand says which refusals it is meant to print, in order, each as a frame's case does; making stops where the account says
 otherwise.
@@ -8,13 +9,14 @@ from typing import NamedTuple
 
 import examples
 from draw import Draw
-from frame_cases import (ALL_SIX, ALL_TEN, UNKNOWN, check_cases, closing, data, flipped, listing, own_header, own_payload, reading_cases,
-                         wrong_header, wrong_payload)
-from mixture import Noisy, Sequence, frame_item, item, key, mixture
-from sync import LONGEST
+from frame_cases import (ALL_SIX, ALL_TEN, UNKNOWN, check_cases, closing, data, first_octet, flipped, ip, listing, long_ip, own_header,
+                         own_payload, reading_cases, swapped, wrong_header, wrong_payload)
+from mixture import Noisy, Partner, Sequence, frame_item, item, key, mixture
+from sync import LONGEST, payload_check
 
 CAPACITY = 4_096
 CHECK_SEED = 445  # of the accounts about checks, which came later: the others stay as they were
+PACKET_SEED = 8_200  # of the accounts about IP packets, which came later still
 
 
 class Case(NamedTuple):
@@ -181,8 +183,71 @@ def noisy_mixtures(draw):
         yield Case(f"noisy mixture {place}", mixture(draw, 30, Noisy), UNKNOWN)
 
 
+def two_behind(draw, length):
+    """An IPv4 packet as the partner's new core sends it."""
+    return ip(draw, 4, length, length + 2)
+
+
+def some_behind(draw, length):
+    return ip(draw, draw.pick((4, 6)), length, length + draw.below(5))
+
+
+def counting_all(stamp, parts):
+    """Frames whose counters count every octet behind the checks, and their closing."""
+    before = [sum(len(part) for part in parts[:number]) for number in range(len(parts) + 1)]
+    frames = [data(stamp, number, before[number], part) for number, part in enumerate(parts)]
+    return frames + [closing(stamp, len(parts), before[-1], (len(parts), before[-1]))]
+
+
+def partners(draw):
+    """Counters without what stands behind the packets: nothing of a partner's sequence is refused."""
+    two = Sequence(draw, 100, [draw.between(20, 90) for _ in range(12)], (300, 5_000), two_behind)
+    yield heard("two octets behind each IPv4 packet", 100, two.data + [two.closing])
+    some = Sequence(draw, 100, [draw.between(40, 90) for _ in range(20)], (300, 5_000), some_behind)
+    yield heard("0 to 4 octets behind IPv4 and IPv6 packets, with losses", 100, some.data[1:6] + some.data[8:19] + [some.listing])
+    yield heard("the same out of order and open", 100, draw.shuffled(some.data[3:9] + some.data[:5] + some.data[12:16]))
+    other = [ip(draw, 4, 30, 30 + behind) for behind in (2, 0, 1, 3, 4, 2)]
+    yield heard("one packet with other octets behind it is nothing new", 5, [data(5, 0, 0, part) for part in other])
+
+
+def wholes(draw):
+    """Nothing is dropped, and counters that count everything are right."""
+    parts = [ip(draw, 4, 30, 35), ip(draw, 4, 30, 32, 4), ip(draw, 4, 19, 21), ip(draw, 4, 23, 25, 6), ip(draw, 4, 20, 19),
+             ip(draw, 4, 40, 38), ip(draw, 5, 30, 32), ip(draw, 6, 40, 39), ip(draw, 6, 50, 55), ip(draw, 6, 50, 48),
+             first_octet(0x75, ip(draw, 6, 50, 52)), ip(draw, 4, swapped(28), 30), b"\x45", b"\x60"]
+    yield heard("packets behind which nothing is dropped", 100, counting_all(100, parts))
+
+
+def miscounts(draw):
+    """Counters that count what is dropped, and one packet that is counted whole."""
+    parts = [ip(draw, 4, 30, 32) for _ in range(4)]
+    yield heard("counters that count two octets behind each packet", 100, counting_all(100, parts), [11, 11])
+    yield heard("a fifth octet behind a packet makes it another length", 5, [
+        data(5, 0, 0, ip(draw, 6, 50, 54)), data(5, 0, 0, ip(draw, 6, 50, 55)), data(5, 1, 50, ip(draw, 4, 20, 25)),
+        data(5, 1, 50, ip(draw, 4, 25, 25)), data(5, 1, 50, ip(draw, 4, 20, 22)), closing(5, 2, 75, (2, 75))], [11, 11])
+    uncovered = []
+    for version, size, behind in ((4, 40, 3), (6, 60, 1), (4, 20, 4)):
+        part = ip(draw, version, size, size + behind)
+        uncovered.append(wrong_payload(data(5, 0, 0, part), payload_check(part[:size])))
+    yield refused_cases("checks that do not cover what is dropped", 5, uncovered)
+
+
+def longest_packets(draw):
+    yield heard("packets of 4,095 octets with 4 and 5 behind them", 5, [
+        data(5, 0, 0, long_ip(draw, 4, 4_095, 4_099)), data(5, 1, 4_095, long_ip(draw, 6, 4_095, 4_100)),
+        data(5, 1, 4_095, long_ip(draw, 4, 4_096, 4_099)), data(5, 1, 4_095, long_ip(draw, 6, 4_095, 4_099)),
+        data(5, 2, 8_190, long_ip(draw, 4, 4_095, 4_100)), closing(5, 2, 8_190, (2, 8_190))], [6, 6, 6])
+
+
+def partner_mixtures(draw):
+    for place in range(6):
+        yield Case(f"partner's mixture {place}", mixture(draw, 30, Partner), UNKNOWN)
+
+
 def all_accounts(draw):
     for group in (first_ones, losses, contradictions, limits, refusals, several, bad_input, mixtures):
         yield from group(draw)
     for group in (checks_between, checks_of_0, noisy_mixtures):
         yield from group(Draw(CHECK_SEED))
+    for group in (partners, wholes, miscounts, longest_packets, partner_mixtures):
+        yield from group(Draw(PACKET_SEED))

@@ -1,4 +1,5 @@
-"""Holds this program to document 01's bench examples A to J, to its sentences about records, and to what a wrong check tells.
+"""Holds this program to document 01's bench examples A to J, to its sentences about records, to what a wrong check tells, and to what is
+dropped behind an IP packet.
 
 It stops at the first thing that is wrong, and otherwise says how many it looked at.
 """
@@ -27,6 +28,38 @@ WRONG_CHECKS = (
     (A[:9] + b"\x3A\x00", 7, 512, 0),
     (A[:9] + b"\x00\x00", 4, 0, 14), (B[:9] + b"\x02\x33\x01", 4, 0, 14), (B[:9] + b"\x3E\x33\x01", 4, 15, 14),
     (B[:9] + b"\xFF\xFF\x00", 4, 63, 14), (E[:17] + b"\x04", 4, 1, 0), (E[:17] + b"\xFF", 4, 63, 0), (C[:17] + b"\x03", 4, 0, 39))
+# An IPv4 packet of 20 octets, and AA BB behind it. The checks are 14 and 0x398, which is over all 22 octets; over the packet alone it
+# would be 0x0C4.
+EXTENDED = bytes.fromhex("10 00 00 00 00 00 00 00 00 3B 98 45 00 00 14") + bytes(16) + b"\xAA\xBB"
+# What the octets behind the checks begin with, how many they are (the rest is zeros), and how many of them are payload.
+PAYLOADS = (
+    # IPv4 of 20 octets, which is 14 in hex. At 19 the header is incomplete, and from 25 on too much stands behind it.
+    ("45 00 00 14", 19, 19), ("45 00 00 14", 20, 20), ("45 00 00 14", 21, 20), ("45 00 00 14", 22, 20), ("45 00 00 14", 23, 20),
+    ("45 00 00 14", 24, 20), ("45 00 00 14", 25, 25), ("45 00 00 14", 26, 26),
+    # It states less than its header, nothing, more than is there, and the most.
+    ("45 00 00 13", 20, 20), ("45 00 00 13", 22, 22), ("45 00 00 00", 20, 20), ("45 00 00 15", 20, 20), ("45 00 FF FF", 22, 22),
+    # Other IHL: 4 is none, 6 is a header of 24 octets, 15 of 60.
+    ("44 00 00 14", 20, 20), ("44 00 00 14", 22, 22), ("44 00 00 10", 20, 20), ("40 00 00 14", 22, 22), ("46 00 00 14", 22, 22),
+    ("46 00 00 17", 24, 24), ("46 00 00 18", 26, 24), ("46 00 00 18", 23, 23), ("4F 00 00 3B", 62, 62), ("4F 00 00 3C", 62, 60),
+    # The octets of 22 and of 258 in the right order and in the other one.
+    ("45 00 00 16", 24, 22), ("45 00 16 00", 24, 24), ("45 00 01 02", 260, 258), ("45 00 02 01", 260, 260),
+    # Type of service, flags, time to live, protocol and checksum are not judged.
+    ("45 FF 00 14 FF FF FF FF FF FF FF FF", 22, 20),
+    # IPv6, whose header of 40 octets is not in the length that it states. A length of 0 is 40.
+    ("60 00 00 00 00 01", 44, 41), ("60 00 00 00 00 01", 41, 41), ("60 00 00 00 00 01", 45, 41), ("60 00 00 00 00 01", 46, 46),
+    ("60 00 00 00 00 01", 40, 40), ("60 00 00 00 00 00", 39, 39), ("60 00 00 00 00 00", 40, 40), ("60 00 00 00 00 00", 44, 40),
+    ("60 00 00 00 00 00", 45, 45), ("6F FF FF FF 00 01 FF FF", 44, 41), ("60 00 00 00 01 00", 44, 44), ("60 00 00 00 01 00", 298, 296),
+    ("60 00 00 00 FF FF", 43, 43), ("60 00 00 00 FF FC", 40, 40), ("60 00 00 2A 00 2A", 44, 44),
+    # Other versions, and octets that are too few for any header.
+    ("55 00 00 14", 22, 22), ("35 00 00 14", 22, 22), ("54 00 00 14", 22, 22), ("50 00 00 00 00 01", 44, 44), ("70 00 00 00 00 01", 44, 44),
+    ("", 0, 0), ("", 22, 22), ("45", 1, 1), ("45 00 00", 3, 3), ("45 00 00 04", 4, 4), ("60", 1, 1), ("60 00 00 00 00", 5, 5),
+    # The limit: a payload of 4,095 octets, which is FFF in hex; FD7 is 40 less.
+    ("45 00 0F FF", 4_095, 4_095), ("45 00 0F FF", 4_096, 4_095), ("45 00 0F FF", 4_099, 4_095), ("45 00 0F FC", 4_096, 4_092),
+    ("60 00 00 00 0F D7", 4_095, 4_095), ("60 00 00 00 0F D7", 4_099, 4_095))
+# The same at which refusal 6 is told: over 4 octets less, or more than 4,095 stated.
+TOO_LONG = (
+    ("45 00 0F FF", 4_100), ("45 00 0F FE", 4_099), ("45 00 0F FB", 4_096), ("45 00 10 00", 4_096), ("45 00 10 00", 4_099),
+    ("44 00 0F FF", 4_099), ("55 00 0F FF", 4_099), ("60 00 00 00 0F D7", 4_100), ("60 00 00 00 0F D8", 4_099))
 KEY = bytes.fromhex("0A 00 01 00 07 00 00 00 03 00 00 00 00 00")
 
 looked = 0
@@ -104,6 +137,64 @@ def found_and_worked_out(draw):
     first, second = draw.pick((header, 0, draw.below(64))), draw.pick((payload, 0, draw.below(1_024)))
     meant = (4, first, header) if first != header else (7, second, payload) if second != payload else (0,)
     same(told(sync.read, control + bytes([first << 2 | second >> 8, second & 255]) + part), meant)
+
+
+def beginning(start, there):
+    """So many octets that begin with these."""
+    return bytes.fromhex(start) + bytes(there - len(bytes.fromhex(start)))
+
+
+def packets():
+    """What is left of a payload is read, heard and written again; the check covers what is dropped, and writing drops nothing."""
+    whole = EXTENDED[11:]
+    same((divided(EXTENDED[:9], 6, 5, 3, 2, 1, 0), divided(whole, 10, 9, 5, 4, 1, 0)), (14, 0x398))
+    same(divided(whole[:20], 10, 9, 5, 4, 1, 0), 0x0C4)
+    same(sync.read(EXTENDED), sync.Data(0, 0, 0, whole[:20]))
+    same(sync.write_data(0, 0, 0, whole), EXTENDED)
+    same(told(sync.read, EXTENDED[:9] + b"\x38\xC4" + whole), (7, 0x0C4, 0x398))
+    same(told(sync.read, EXTENDED[:-1] + b"\xBA"), (7, 0x398, 0x398 ^ 0x233))  # one turned bit at the end is 01 as in B
+    for start, there, left in PAYLOADS:
+        frame = sync.join_parts(sync.control_part(sync.DATA, 0, 0, 0), beginning(start, there))
+        said = sync.read(frame)
+        same(said, sync.Data(0, 0, 0, beginning(start, there)[:left]))
+        same(len(sync.write(said)), 11 + left)
+        record = account.Record(7, 3, 0)
+        record.hear(7, 3, frame)
+        same(record.packets, {0: (0, left)})
+    for start, there in TOO_LONG:
+        frame = sync.join_parts(sync.control_part(sync.DATA, 0, 0, 0), beginning(start, there))
+        same(told(sync.read, frame), (6,))
+        same(told(sync.read, frame[:-1] + b"\x01"), (6,))  # the check is wrong now, and 6 comes first
+        same(refusal(sync.write_data, 0, 0, 0, beginning(start, there)), 20)
+
+
+def side(part):
+    """The rule on IP packets once more, on hex digits: the version, the octets that are dropped, and all reasons why none is.
+
+    In an incomplete header nothing else is looked at. Another version than 4 and 6 is looked at as if it were 4.
+    """
+    digits, there = part.hex(), len(part)
+    version = digits[:1]
+    if there < (40 if version == "6" else 20):
+        return version, 0, ("incomplete",)
+    if version == "6":
+        header, stated = 40, 40 + int(digits[8:12], 16)
+    else:
+        header, stated = 4 * int(digits[1], 16), int(digits[4:8], 16)
+    reasons = (("another version", version not in "46"), ("IHL under 5", header < 20), ("less than its header", stated < header),
+               ("more than is there", stated > there), ("over 4 less", there - stated > 4))
+    found = tuple(name for name, so in reasons if so)
+    return version, 0 if found else there - stated, found
+
+
+def packet_by_chance(draw):
+    """Octets that start as an IP packet, or nearly, and state a length near their number: what is left is what `side` gives."""
+    there = draw.pick((draw.below(50), draw.between(18, 26), draw.between(38, 46), draw.between(250, 300)))
+    near = max(0, there - draw.between(-2, 6)).to_bytes(2, "big")
+    near_6 = max(0, there - 40 - draw.between(-2, 6)).to_bytes(2, "big")
+    first = draw.pick((0x45, 0x45, 0x60, 0x40 | draw.below(16), draw.below(256)))
+    part = (bytes([first, draw.below(256)]) + near + near_6 + draw.octets(there))[:there]
+    same(there - len(sync.read(sync.write_data(0, 0, 0, part)).payload), side(part)[1])
 
 
 def writing_order():
@@ -190,12 +281,21 @@ def truth(sending, heard, closed):
     return lines + [f"gap {first} {count} {octets}" for first, count, octets in gaps] + ["end"]
 
 
-def receptions(draw):
+def zeros(draw, length):
+    return bytes(length)
+
+
+def extended(draw, length):
+    """An IPv4 packet of this length with 0 to 4 octets behind it; zeros alone where it would be too short."""
+    return zeros(draw, length) if length < 20 else b"\x45\x00" + length.to_bytes(2, "big") + bytes(length - 4) + draw.octets(draw.below(5))
+
+
+def receptions(draw, part):
     """No order, repeat or loss of one sequence's frames is refused, and the account is that of the sending."""
     sending = [draw.pick((0, 1, 30, draw.below(60))) for _ in range(draw.below(30))]
     heard = {number for number in range(len(sending)) if not draw.chance(3)}
     closed = draw.chance(2)
-    frames_heard = [sync.write_data(3, number, sum(sending[:number]), bytes(sending[number])) for number in heard]
+    frames_heard = [sync.write_data(3, number, sum(sending[:number]), part(draw, sending[number])) for number in heard]
     if closed:
         frames_heard.append(sync.write_closing(3, len(sending), sum(sending), len(sending), sum(sending)))
         frames_heard.append(sync.write_lengths(3, len(sending), sum(sending), len(sending), sum(sending), sending))
@@ -208,6 +308,7 @@ def receptions(draw):
 def main():
     frames()
     wrong_checks()
+    packets()
     writing_order()
     neighbours()
     ticks()
@@ -215,9 +316,13 @@ def main():
     sendings()
     draw = Draw(1)
     for _ in range(100):
-        receptions(draw)
+        receptions(draw, zeros)
     for _ in range(500):
         found_and_worked_out(draw)
+    for _ in range(2_000):
+        packet_by_chance(draw)
+    for _ in range(100):
+        receptions(draw, extended)
     print(f"examples: {looked} compared")
 
 

@@ -1,7 +1,8 @@
 """Frames for the crate `second_frames`: good ones at every limit, and refused ones for every cause that reading has.
 
 Each case says what it is meant to be: GOOD, a refusal's number, 4 or 7 with the checks found and worked out, or UNKNOWN where chance
-made it. Making stops where reading disagrees, so a case cannot quietly show something else.
+made it; and how many octets are meant to be dropped behind an IP packet. Making stops where reading disagrees, so a case cannot quietly
+show something else.
 """
 
 from itertools import combinations
@@ -9,8 +10,9 @@ from typing import NamedTuple
 
 import examples
 from draw import Draw
-from sync import (CLOSING, CONTROL_SIZE, DATA, HEADER_WIDTH, LAST_NUMBER, LAST_STAMP, LEAST_SIZE, LENGTHS, LONGEST, PAYLOAD_WIDTH,
-                  control_part, end_closing, header_check, join_parts, lengths_size, pack_lengths, payload_check, remainder)
+from sync import (CLOSING, CONTROL_SIZE, DATA, HEADER_WIDTH, LAST_NUMBER, LAST_STAMP, LEAST_IHL, LEAST_SIZE, LENGTHS, LONGEST,
+                  MOST_EXTENSION, PAYLOAD_WIDTH, control_part, end_closing, header_check, join_parts, lengths_size, pack_lengths,
+                  payload_check, remainder)
 
 GOOD, UNKNOWN = 0, None
 MOST_PACKETS = (1 << 24) - 1
@@ -21,11 +23,19 @@ ALL_SIX, ALL_TEN = 0x3F, 0x3FF
 OTHER_HEADERS = (0b111_1011, 0b100_0011, 0b110_0111)
 OTHER_PAYLOADS = (0b110_0110_0011, 0b100_0000_1001, 0b111_1101_1001)
 CHECK_SEED = 562  # of the cases about checks, which came later: the others stay as they were
+PACKET_SEED = 791  # of the cases about IP packets, which came later still
+# Each side of each clause about IP packets, as `side` of the examples names it: the octets dropped, or a reason why none is that stands
+# alone, so that nothing else keeps them. An IPv6 header never states less than itself.
+SIDES = {(version, dropped, ()) for version in "46" for dropped in range(MOST_EXTENSION + 1)}
+SIDES |= {(version, 0, (reason,)) for version in "46" for reason in ("incomplete", "more than is there", "over 4 less")}
+SIDES |= {(version, 0, ("another version",)) for version in "01235789abcdef"}
+SIDES |= {("", 0, ("incomplete",)), ("4", 0, ("IHL under 5",)), ("4", 0, ("less than its header",))}
 
 
 class Case(NamedTuple):
     frame: bytes
     meant: object
+    dropped: object = 0  # of a good frame
 
 
 # Frames with right checks, whatever their fields say
@@ -236,8 +246,8 @@ def listing_counts(draw):
 # Several causes at once: the order decides
 
 
-def with_causes(kind, causes, draw):
-    """A frame with exactly these of the causes 4 to 8, its checks right otherwise."""
+def with_causes(kind, causes, draw, part=None):
+    """A frame with exactly these of the causes 4 to 8, its checks right otherwise. A part that is given is the payload of Type 1."""
     stamp = draw.between(60_000, 65_535) if 5 in causes else draw.below(60_000)
     lengths = [draw.below(50) for _ in range(draw.between(1, 6))]
     count, octets = len(lengths), sum(lengths)
@@ -246,7 +256,7 @@ def with_causes(kind, causes, draw):
     if kind == CLOSING:
         frame = closing(stamp, count, octets, (count, octets)) + bytes(6 in causes)
     elif kind == DATA:
-        frame = data(stamp, count, octets, draw.octets(LONGEST + 1 if 6 in causes else 30))
+        frame = data(stamp, count, octets, draw.octets(LONGEST + 1 if 6 in causes else 30) if part is None else part)
     else:
         extension = draw.octets(draw.below(5)) if 6 not in causes else bytes(5)
         frame = listing(stamp, lengths, octets=octets, extension=extension)
@@ -423,6 +433,170 @@ def covered(draw):
             yield Case(wrong, (7, own_payload(frame), payload_check(wrong[LEAST_SIZE[frame[0] >> 4]:])))
 
 
+# What stands behind an IP packet
+
+
+def ip(draw, version, stated, there, ihl=LEAST_IHL):
+    """So many octets, which start as an IP packet that states a length, and are chance otherwise. Versions but 6 are laid out as 4."""
+    if version == 6:
+        start = bytes([0x60 | draw.below(16)]) + draw.octets(3) + (stated - 40).to_bytes(2, "big")
+    else:
+        start = bytes([version << 4 | ihl, draw.below(256)]) + stated.to_bytes(2, "big")
+    return (start + draw.octets(there - len(start)))[:there]
+
+
+def first_octet(octet, part):
+    return bytes([octet]) + part[1:]
+
+
+def carried(draw, part, dropped=0):
+    """A good frame with these octets behind its checks, now and then with spare bits."""
+    spare = draw.below(16) if draw.chance(8) else 0
+    return Case(data(draw.below(60_000), 1, draw.below(LONGEST + 1), part, spare), GOOD, dropped)
+
+
+def octets_behind(draw):
+    """0 to 6 octets behind packets whose lengths have one octet or two."""
+    for version, sizes in ((4, (20, 21, 255, 256, 258)), (6, (40, 41, 295, 296, 298))):
+        for size in sizes:
+            for behind in range(7):
+                yield carried(draw, ip(draw, version, size, size + behind), behind if behind <= MOST_EXTENSION else 0)
+
+
+def lengths_near(draw):
+    """Lengths from 6 below to 6 above the number of octets there."""
+    for version, there in ((4, 30), (4, 260), (6, 50), (6, 300)):
+        for more in range(-6, 7):
+            yield carried(draw, ip(draw, version, there + more, there), -more if -MOST_EXTENSION <= more <= 0 else 0)
+
+
+def header_lengths(draw):
+    """Every IHL, with lengths around that of the header. Below 5 it is no IHL, however well the length fits."""
+    for ihl in range(16):
+        header = 4 * ihl
+        for stated in (max(header - 1, 0), header, header + 1, 60):
+            for behind in (0, draw.between(1, MOST_EXTENSION)):
+                fits = ihl >= LEAST_IHL and stated >= header
+                yield carried(draw, ip(draw, 4, stated, stated + behind, ihl), behind if fits else 0)
+    for ihl in range(LEAST_IHL):
+        for stated in (16, 19, 20):
+            yield carried(draw, ip(draw, 4, stated, 20, ihl))
+
+
+def shortest_packets(draw):
+    """Octets and lengths around those of the shortest headers, each with each."""
+    for version, header, least in ((4, 20, 18), (6, 40, 40)):
+        for there in range(header - 1, header + 6):
+            for stated in range(least, header + 6):
+                fits = header <= stated <= there <= stated + MOST_EXTENSION
+                yield carried(draw, ip(draw, version, stated, there), there - stated if fits else 0)
+
+
+def cut_headers(draw):
+    """Headers cut at every octet: they state the whole packet, or what is there, in IPv4 with the IHL that goes with it."""
+    for there in range(20):
+        yield carried(draw, ip(draw, 4, 20, there))
+        yield carried(draw, ip(draw, 4, there, there, there // 4))
+    for there in range(40):
+        yield carried(draw, ip(draw, 6, 40, there))
+    # Lengths that a sum of 16 bits would take for ones that fit: 40 more starts over at 2^16.
+    for there, stated in ((0, 65_536), (36, 65_536 + 36), (39, 65_536 + 39), (40, 65_536 + 39), (40, 65_536 + 36), (43, 65_536 + 39)):
+        yield carried(draw, ip(draw, 6, stated, there))
+
+
+def other_versions(draw):
+    """Neither 4 nor 6, whatever length stands where; and each of the two with a length only where the other has it."""
+    for version in range(16):
+        if version not in (4, 6):
+            yield carried(draw, ip(draw, version, 24, 26))
+            yield carried(draw, first_octet(version << 4 | LEAST_IHL, ip(draw, 6, 50, 52)))
+    yield carried(draw, first_octet(0x45, ip(draw, 6, 50, 52)))
+    yield carried(draw, first_octet(0x60, ip(draw, 4, 50, 52)))
+
+
+def swapped(number):
+    """Its two octets in the other order."""
+    return int.from_bytes(number.to_bytes(2, "big"), "little")
+
+
+def swapped_lengths(draw):
+    """Lengths with their least significant octet first are others; 257 is the same in both orders."""
+    for behind in (0, 2):
+        for length in (20, 22, 255, 256, 258):
+            yield carried(draw, ip(draw, 4, swapped(length), length + behind))
+            yield carried(draw, ip(draw, 6, 40 + swapped(length), 40 + length + behind))
+        yield carried(draw, ip(draw, 4, swapped(257), 257 + behind), behind)
+        yield carried(draw, ip(draw, 6, 40 + swapped(257), 40 + 257 + behind), behind)
+
+
+def length_bits(draw):
+    """All 16 bits of a length count: one that fits is far too long with one more of them."""
+    for place in range(6, 16):
+        yield carried(draw, ip(draw, 4, 24 + (1 << place), 26))
+        yield carried(draw, ip(draw, 6, 50 + (1 << place), 52))
+
+
+def packets_in_lengths(draw):
+    """The lengths of Type 3 are no packet: 45 00 00 states nothing there, and no more than 4 octets behind them are dropped."""
+    for stated in (0x16, 0x18, 0x19):
+        lengths = [0x450, 0x000, stated << 4] + [draw.below(LONGEST + 1) for _ in range(13)]  # 24 octets
+        yield Case(listing(draw.below(60_000), lengths), GOOD)
+        yield Case(listing(draw.below(60_000), lengths, extension=draw.octets(2)), GOOD)
+        yield Case(listing(draw.below(60_000), lengths, extension=draw.octets(5)), 6)
+
+
+def covered_behind(draw):
+    """The check covers what is dropped: without it, and with a bit turned in it or in the length stated, the check is wrong."""
+    for version, size, length_ends in ((4, 28, 4), (6, 44, 6)):
+        for behind in range(1, MOST_EXTENSION + 1):
+            frame = data(draw.below(60_000), 1, 7, ip(draw, version, size, size + behind))
+            first = LEAST_SIZE[DATA]
+            yield wrong_payload(frame, payload_check(frame[first:first + size]))
+            yield wrong_payload(frame, own_payload(frame) ^ draw.between(1, ALL_TEN))
+            for bit in (8 * (first + length_ends) - 1, 8 * (first + size), 8 * len(frame) - 1):
+                wrong = flipped(frame, bit)
+                yield Case(wrong, (7, own_payload(frame), payload_check(wrong[first:])))
+
+
+def causes_behind(draw):
+    """The causes but the size, one and two at once, where octets would be dropped."""
+    for version, size in ((4, 24), (6, 48)):
+        for count in (1, 2):
+            for causes in combinations((4, 5, 7, 8), count):
+                yield Case(with_causes(DATA, causes, draw, ip(draw, version, size, size + draw.between(1, MOST_EXTENSION))), min(causes))
+
+
+def long_ip(draw, version, stated, there, ihl=LEAST_IHL):
+    """Zeros behind the header, so that the stored text stays short."""
+    return ip(draw, version, stated, 40, ihl) + bytes(there - 40)
+
+
+def longest_packets(draw):
+    """4,095 octets are left, or more. Where too many are, a wrong check and impossible counts are not told."""
+    for version, stated, there in ((4, 4_095, 4_095), (4, 4_095, 4_096), (4, 4_095, 4_099), (4, 4_092, 4_096), (6, 4_095, 4_095),
+                                   (6, 4_095, 4_099)):
+        yield carried(draw, long_ip(draw, version, stated, there), there - stated)
+    for version, stated, there in ((4, 4_095, 4_100), (4, 4_094, 4_099), (4, 4_091, 4_096), (4, 4_096, 4_096), (4, 4_096, 4_099),
+                                   (4, 4_099, 4_099), (6, 4_095, 4_100), (6, 4_094, 4_099), (6, 4_096, 4_099)):
+        yield Case(carried(draw, long_ip(draw, version, stated, there)).frame, 6)
+    yield Case(carried(draw, long_ip(draw, 4, 4_095, 4_099, 4)).frame, 6)
+    yield Case(carried(draw, long_ip(draw, 5, 4_095, 4_099)).frame, 6)
+    frame = carried(draw, long_ip(draw, 4, 4_095, 4_100)).frame
+    yield Case(wrong_payload(frame, own_payload(frame) ^ draw.between(1, ALL_TEN)).frame, 6)
+    yield Case(with_causes(DATA, (7, 8), draw, long_ip(draw, 6, 4_095, 4_100)), 6)
+    frame = carried(draw, long_ip(draw, 4, 4_095, 4_099)).frame
+    yield wrong_payload(frame, own_payload(frame) ^ draw.between(1, ALL_TEN))
+
+
+def packets_by_chance(draw):
+    for _ in range(60):
+        version = draw.pick((4, 4, 6, 6, draw.below(16)))
+        there = draw.between(18, 50) + draw.pick((0, 30, 240))
+        stated = there - draw.between(-2, 6)
+        part = ip(draw, version, max(stated, 40) if version == 6 else stated, there, draw.pick((5, 5, draw.below(16))))
+        yield carried(draw, part, UNKNOWN)
+
+
 def named(groups, draw):
     """The cases of these groups, each group after the other."""
     for group in groups:
@@ -441,6 +615,13 @@ def check_cases(draw):
     return named((headers_found, headers_worked_out, payloads_found, payloads_worked_out, both_wrong, other_rules, covered), draw)
 
 
+def packet_cases(draw):
+    """IP packets with octets behind them, and what looks like such."""
+    return named((octets_behind, lengths_near, header_lengths, shortest_packets, cut_headers, other_versions, swapped_lengths,
+                  length_bits, packets_in_lengths, covered_behind, causes_behind, longest_packets, packets_by_chance), draw)
+
+
 def all_cases(draw):
     yield from reading_cases(draw)
     yield from check_cases(Draw(CHECK_SEED))
+    yield from packet_cases(Draw(PACKET_SEED))

@@ -1,7 +1,7 @@
 """Optional: compares the account program with this one on many inputs made by chance.
 
 `python3 second/many.py PROGRAM FIRST COUNT` takes the seeds from FIRST on, and names each seed at which the two print something else.
-Odd seeds make many wrong checks.
+By turns a seed makes sequences with losses and damage, many wrong checks, and IP packets with octets behind them.
 """
 
 import subprocess
@@ -9,9 +9,10 @@ import sys
 
 from account import printed
 from draw import Draw
-from mixture import Noisy, Sending, mixture
+from mixture import Noisy, Partner, Sending, mixture
 
 MOST_FRAMES = 24
+KINDS = (Sending, Noisy, Partner)
 
 
 def main():
@@ -20,7 +21,7 @@ def main():
     program, first, count = sys.argv[1], int(sys.argv[2]), int(sys.argv[3])
     differing = 0
     for seed in range(first, first + count):
-        items = mixture(Draw(seed), MOST_FRAMES, Noisy if seed % 2 else Sending)
+        items = mixture(Draw(seed), MOST_FRAMES, KINDS[seed % len(KINDS)])
         found = subprocess.run([program], input=items, stdout=subprocess.PIPE, timeout=10, check=False).stdout
         meant = printed(items).encode()
         if found != meant:

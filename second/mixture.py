@@ -1,6 +1,7 @@
 """Sequences as a sender sends them, and inputs that mix them by chance with frames that do not belong."""
 
-from frame_cases import (OTHER_HEADERS, OTHER_PAYLOADS, closing, data, flipped, listing, own_header, own_payload, wrong_header,
+from draw import Draw
+from frame_cases import (OTHER_HEADERS, OTHER_PAYLOADS, closing, data, flipped, ip, listing, own_header, own_payload, wrong_header,
                          wrong_payload)
 from sync import CLOSING, CONTROL_SIZE, HEADER_WIDTH, LAST_STAMP, LEAST_SIZE, LONGEST, PAYLOAD_WIDTH, remainder
 
@@ -21,16 +22,19 @@ def frame_item(frame):
 
 
 class Sequence:
-    """The frames of one sequence: those of its data in order, and its closing as Type 0 and as Type 3."""
+    """The frames of one sequence: those of its data in order, and its closing as Type 0 and as Type 3.
 
-    def __init__(self, draw, stamp, lengths, before):
+    `part` makes what stands behind the checks for a payload of some length: most often the payload alone.
+    """
+
+    def __init__(self, draw, stamp, lengths, before, part=Draw.octets):
         self.stamp, self.lengths = stamp, lengths
         self.elapsed = [0]
         for length in lengths:
             self.elapsed.append(self.elapsed[-1] + length)
         self.count, self.octets = len(lengths), self.elapsed[-1]
         totals = (before[0] + self.count, before[1] + self.octets)
-        self.data = [data(stamp, number, self.elapsed[number], draw.octets(length)) for number, length in enumerate(lengths)]
+        self.data = [data(stamp, number, self.elapsed[number], part(draw, length)) for number, length in enumerate(lengths)]
         self.closing = closing(stamp, self.count, self.octets, totals)
         self.listing = listing(stamp, lengths, totals)
 
@@ -44,6 +48,10 @@ class Sending:
         most = draw.pick((0, 1, 40, 40, 40, LONGEST))
         ends = draw.pick((most, 0))
         self.lengths = [draw.pick((ends, draw.below(most + 1))) for _ in range(self.count)]
+
+    def part(self, length):
+        """What stands behind the checks for a payload of this length."""
+        return self.draw.octets(length)
 
     def before(self, number):
         return sum(self.lengths[:number])
@@ -61,7 +69,7 @@ class Sending:
                 return listing(self.stamp, self.lengths)
             return closing(self.stamp, self.count, total, (self.count, total))
         number = self.place()
-        return data(self.stamp, number, self.before(number), self.draw.octets(self.lengths[number]))
+        return data(self.stamp, number, self.before(number), self.part(self.lengths[number]))
 
     def near_frame(self):
         """One that is off by a little, or stands right at a limit."""
@@ -75,7 +83,7 @@ class Sending:
         end = self.before(last + 1)
         elapsed = draw.pick((end, end + LONGEST * (number - last - 1), self.before(number))) + little
         length = max(0, self.lengths[number] + draw.pick((-1, 0, 0, 1)))
-        return data(max(0, min(LAST_STAMP, self.stamp + draw.pick((0, 0, 0, 0, 1)))), number, max(0, elapsed), draw.octets(length))
+        return data(max(0, min(LAST_STAMP, self.stamp + draw.pick((0, 0, 0, 0, 1)))), number, max(0, elapsed), self.part(length))
 
     def frame(self):
         choice = self.draw.below(8)
@@ -109,6 +117,22 @@ class Noisy(Sending):
             control = frame[:CONTROL_SIZE[kind]]
             return wrong_header(frame, other_check(self.draw, own_header(frame), control, OTHER_HEADERS, HEADER_WIDTH)).frame
         return frame
+
+
+class Partner(Sending):
+    """A sending of IP packets most often, with 0 to 4 octets behind them; now and then with more, or with another IHL."""
+
+    def __init__(self, draw, stamp):
+        super().__init__(draw, stamp)
+        self.lengths = [LONGEST if draw.chance(60) else draw.pick((20, 40, draw.between(20, 90))) for _ in self.lengths]
+
+    def part(self, length):
+        draw = self.draw
+        if draw.chance(6):
+            return super().part(length)
+        version = draw.pick((4, 6)) if length >= 40 else 4
+        behind = draw.below(7) if draw.chance(8) else draw.below(5)
+        return ip(draw, version, length, length + behind, draw.below(16) if draw.chance(8) else 5)
 
 
 def mixture(draw, most_frames, kind=Sending):

@@ -1,7 +1,7 @@
 """Frames of SYNC version 1 on M1: PDU Types 0, 1 and 3, read and written.
 
-Written from document 01 and TS 25.446 v17.0.0 alone, and what is told of a wrong check from request 6 of document 02, so that it
-can disagree with the library. Clear before quick: the checks divide one bit at a time.
+Written from document 01 and TS 25.446 v17.0.0 alone, and from two requests of document 02: what is told of a wrong check (6) and what is
+dropped behind an IP packet (2). So it can disagree with the library. Clear before quick: the checks divide one bit at a time.
 """
 
 from typing import NamedTuple
@@ -10,6 +10,8 @@ LAST_STAMP = 59_999
 LONGEST = 4_095  # octets of one payload: a Type 3 length has 12 bits
 LAST_NUMBER = 65_534  # a closing PDU carries the count in 16 bits, so the last data PDU is one below 65,535
 MOST_EXTENSION = 4
+IPV4_HEADER, IPV6_HEADER = 20, 40  # octets of the shortest IPv4 header, and of every IPv6 header
+LEAST_IHL = 5  # IPv4's header length, in words of four octets
 
 CLOSING, DATA, COMPRESSED, LENGTHS = 0, 1, 2, 3
 CONTROL_SIZE = {CLOSING: 17, DATA: 9, LENGTHS: 17}
@@ -128,6 +130,28 @@ def unpack_lengths(part, count):
     return tuple(row >> width - 12 * (place + 1) & 0xFFF for place in range(count))
 
 
+# The payload of Type 1
+
+
+# Request 2 of document 02: "a Type 1 payload that starts as IPv4 or IPv6 has the length its IP header states (IPv4 total length, RFC 791;
+# IPv6 payload length plus 40, RFC 8200), and the 0 to 4 octets after it are dropped. If the IP header is incomplete, has another version or
+# IHL under 5, states less than its own header, more than is there or over 4 octets less, all of it is payload as before."
+def payload_size(part):
+    """How many of the octets behind the checks are payload. Nothing else of the IP header is judged."""
+    if len(part) == 0:
+        return 0
+    version, ihl = part[0] >> 4, part[0] & 0x0F
+    if version == 4 and len(part) >= IPV4_HEADER and ihl >= LEAST_IHL:
+        header, stated = 4 * ihl, int.from_bytes(part[2:4], "big")
+    elif version == 6 and len(part) >= IPV6_HEADER:
+        header, stated = IPV6_HEADER, IPV6_HEADER + int.from_bytes(part[4:6], "big")
+    else:
+        return len(part)
+    if stated < header or stated > len(part) or stated + MOST_EXTENSION < len(part):
+        return len(part)
+    return stated
+
+
 # Impossible counts
 
 
@@ -168,13 +192,13 @@ def read(frame):
     refuse_if(stamp > LAST_STAMP, 5)
     number = int.from_bytes(control[3:5], "big")
     elapsed = int.from_bytes(control[5:9], "big")
-    refuse_if(size_wrong(kind, len(frame), number), 6)
     part = frame[LEAST_SIZE[kind]:]
+    refuse_if(size_wrong(kind, part, number), 6)
     if kind != CLOSING:
         hold_check((frame[size] & 3) << 8 | frame[size + 1], payload_check(part), 7)
     if kind == DATA:
         refuse_if(data_impossible(number, elapsed), 8)
-        return Data(stamp, number, elapsed, bytes(part))
+        return Data(stamp, number, elapsed, bytes(part[:payload_size(part)]))
     total_packets = int.from_bytes(control[9:12], "big")
     total_octets = int.from_bytes(control[12:17], "big")
     refuse_if(closing_impossible(number, elapsed, total_packets, total_octets), 8)
@@ -185,14 +209,13 @@ def read(frame):
     return Lengths(stamp, number, elapsed, total_packets, total_octets, lengths)
 
 
-def size_wrong(kind, size, number):
-    """Whether a frame that is long enough for its type still has a size that its type never has."""
-    beyond = size - LEAST_SIZE[kind]
+def size_wrong(kind, part, number):
+    """Whether a frame that is long enough for its type, with this part beyond the least size, has a size that its type never has."""
     if kind == CLOSING:
-        return beyond != 0
+        return len(part) != 0
     if kind == DATA:
-        return beyond > LONGEST
-    return not lengths_size(number) <= beyond <= lengths_size(number) + MOST_EXTENSION
+        return payload_size(part) > LONGEST
+    return not lengths_size(number) <= len(part) <= lengths_size(number) + MOST_EXTENSION
 
 
 # Writing

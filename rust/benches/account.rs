@@ -6,10 +6,13 @@ mod frames;
 mod generate;
 #[path = "../peers/items.rs"]
 mod items;
+#[path = "../peers/payloads.rs"]
+mod payloads;
 #[path = "../peers/checks.rs"]
 mod peers;
 
 use frames::Reader;
+use payloads::{NO_PACKET, PACKETS};
 use quimdoral::Key;
 use std::fs::{self, File};
 use std::io::Write;
@@ -21,22 +24,24 @@ use std::time::Instant;
 const OCTETS: usize = 40_000_000;
 const ROUNDS: usize = 15;
 
-/// Sequences of so many packets with payloads of one size. One packet in a hundred was lost; closings of both types come in turn.
+/// Sequences of so many packets with payloads of one size and shape. One packet in a hundred was lost; closings of both types come in turn.
 #[derive(Clone, Copy)]
-struct Shape {
+struct Sequences {
     payload: u64,
+    shape: payloads::Shape,
     packets: u64,
 }
 
-impl Shape {
+impl Sequences {
     fn items(self, reader: &Reader) -> Vec<u8> {
-        let Shape { payload, packets } = self;
+        let Sequences { payload, shape, packets } = self;
+        let octets = shape.octets(payload as usize);
         let mut input = Vec::with_capacity(OCTETS + (1 << 21));
         let mut stamp = 0;
         while input.len() < OCTETS {
             input.extend(items::key(Key { bearer: 21, period: 9, stamp }));
             for number in (0..packets).filter(|number| number % 100 != 57) {
-                input.extend(items::frame(&generate::data(reader, stamp, number, payload * number, payload as usize)));
+                input.extend(items::frame(&generate::data_with(reader, stamp, number, payload * number, &octets)));
             }
             input.extend(items::frame(&match stamp % 2 {
                 0 => generate::closing(reader, stamp, packets, payload * packets),
@@ -94,13 +99,14 @@ impl From<'_> {
     }
 }
 
-fn compare(Shape { payload, packets }: Shape, name: &str, from: &From, programs: [&Path; 2]) {
+fn compare(Sequences { payload, shape, packets }: Sequences, name: &str, from: &From, programs: [&Path; 2]) {
     let [ours, theirs] = programs.map(|program| from.run(program, Stdio::piped()));
     assert!(ours == theirs && !ours.is_empty(), "the programs print other accounts");
     let [(our_best, our_median), (best, median)] = from.race(programs);
     println!(
-        "{payload:>6} octets, {packets:>5} packets, {name}: ours {our_best:.1} ms, median {our_median:.1}; plain Rust {best:.1} ms, median \
-         {median:.1}; ours takes {:.2}x of the best, {:.2}x of the median",
+        "{payload:>6} octets, {}, {packets:>5} packets, {name}: ours {our_best:.1} ms, median {our_median:.1}; plain Rust {best:.1} ms, \
+         median {median:.1}; ours takes {:.2}x of the best, {:.2}x of the median",
+        shape.name,
         our_best / best,
         our_median / median
     );
@@ -120,13 +126,18 @@ fn main() {
     assert!(ours.exists(), "the program is not there: run `rt check account` in the repository's root first");
     let programs = [&ours, Path::new(env!("CARGO_BIN_EXE_plain_account"))];
     let reader = Reader::new();
-    println!("accounts of {} MB of items, by payload and packets a sequence; best and median of {ROUNDS} rounds", OCTETS / 1_000_000);
-    for (payload, packets) in [(1_400, 1_000), (64, 1_000), (64, 100)] {
-        let shape = Shape { payload, packets };
-        let items = shape.items(&reader);
+    println!(
+        "accounts of {} MB of items, by payload, its shape, and packets a sequence; best and median of {ROUNDS} rounds",
+        OCTETS / 1_000_000
+    );
+    let shapes = [NO_PACKET, PACKETS[0], PACKETS[1]];
+    let of_a_thousand = [1_400, 64].into_iter().flat_map(|payload| shapes.map(|shape| (payload, shape, 1_000)));
+    for (payload, shape, packets) in of_a_thousand.chain([(64, NO_PACKET, 100)]) {
+        let sequences = Sequences { payload, shape, packets };
+        let items = sequences.items(&reader);
         let file = Temporary(std::env::temp_dir().join(format!("quimdoral-{}.items", std::process::id())));
         fs::write(&file.0, &items).expect("room for the items");
-        compare(shape, "from a file", &From::File(&file.0), programs);
-        compare(shape, "through a pipe", &From::Pipe(&items), programs);
+        compare(sequences, "from a file", &From::File(&file.0), programs);
+        compare(sequences, "through a pipe", &From::Pipe(&items), programs);
     }
 }

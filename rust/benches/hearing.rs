@@ -6,6 +6,8 @@
 mod frames;
 #[path = "../peers/generate.rs"]
 mod generate;
+#[path = "../peers/payloads.rs"]
+mod payloads;
 #[path = "../peers/checks.rs"]
 mod peers;
 #[path = "../peers/records.rs"]

@@ -1,5 +1,5 @@
-//! The account program in plain Rust, std alone, written from document 01, request 6 of document 02, and TS 25.446: a program of its own,
-//! which the benchmark times, and the same as a function, which the tests compare with.
+//! The account program in plain Rust, std alone, written from document 01, requests 2 and 6 of document 02, and TS 25.446: a program of its
+//! own, which the benchmark times, and the same as a function, which the tests compare with.
 //!
 //! It reads and prints in large pieces. The checks go by tables over slices of 16 and 8 octets. A bit a packet says what was heard, so
 //! the neighbours of a packet are found in a few steps, and nothing but the bits is cleared for a new sequence.
@@ -9,6 +9,7 @@ use std::io::{self, ErrorKind, Read, Write};
 
 const PLACES: usize = 4_096;
 const LONGEST_PAYLOAD: u64 = 4_095;
+const LONGEST_EXTENSION: u64 = 4;
 const LAST_STAMP: u16 = 59_999;
 const LONGEST_BODY: usize = 8_192;
 const PIECE: usize = 1 << 16;
@@ -143,13 +144,32 @@ fn payload_checked(checks: &[u8], payload: &[u8]) -> Result<(), Refused> {
     if found == worked_out { Ok(()) } else { Err(Refused { number: 7, found, worked_out }) }
 }
 
+/// The length that an IP header states: IPv4's total length (RFC 791), or 40 more than IPv6's payload length (RFC 8200). Nothing where the
+/// octets are no such header, or not all of it, or state less than the header itself.
+fn stated(packet: &[u8]) -> Option<u64> {
+    match packet.first()? >> 4 {
+        4 if packet.len() >= 20 => {
+            let (header, total) = (4 * u64::from(packet[0] & 15), number(&packet[2..4]));
+            (header >= 20 && total >= header).then_some(total)
+        }
+        6 if packet.len() >= 40 => Some(number(&packet[4..6]) + 40),
+        _ => None,
+    }
+}
+
+/// The octets of a packet, without the extension behind it; without an IP header that says where the packet ends, all that is there.
+fn payload_length(part: &[u8]) -> u64 {
+    let there = part.len() as u64;
+    stated(part).filter(|&stated| stated <= there && there - stated <= LONGEST_EXTENSION).unwrap_or(there)
+}
+
 fn packet(frame: &[u8]) -> Result<Said, Refused> {
-    let payload = &frame[11..];
-    let length = payload.len() as u64;
+    let part = &frame[11..];
+    let length = payload_length(part);
     if length > LONGEST_PAYLOAD {
         return refused(6);
     }
-    payload_checked(&frame[9..11], payload)?;
+    payload_checked(&frame[9..11], part)?;
     let (number, start) = (number(&frame[3..5]), number(&frame[5..9]));
     if number == 65_535 || start > LONGEST_PAYLOAD * number {
         return refused(8);

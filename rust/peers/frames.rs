@@ -1,11 +1,11 @@
-//! Reading a frame as a plain Rust program would: document 01's layouts and order, with table-driven checks; and request 6 of document
-//! 02, by which a wrong check is told with the right one.
+//! Reading a frame as a plain Rust program would: document 01's layouts and order, with table-driven checks; and of document 02 request 6,
+//! by which a wrong check is told with the right one, and request 2, by which what stands behind an IP packet is dropped.
 #![allow(dead_code)]
 
 use crate::peers::{HeaderTable, Tables};
 use quimdoral::{Checks, ReadRefusal};
 
-/// The fields of a data PDU (Type 1), with its payload's length.
+/// The fields of a data PDU (Type 1), with its payload's length, an extension not counted.
 #[derive(Clone, Copy, Debug, PartialEq, Eq)]
 pub struct Data {
     pub stamp: u32,
@@ -113,6 +113,49 @@ pub fn length_at(frame: &[u8], i: usize) -> u64 {
     if i % 2 == 0 { three >> 12 } else { three & 0xFFF }
 }
 
+/// How many of the octets behind the checks of a data PDU are its payload: as many as their IP header states, where that is up to four
+/// fewer than are there and not fewer than the header has itself; otherwise all of them.
+pub fn kept(behind: &[u8]) -> usize {
+    let there = behind.len();
+    let Some(&first) = behind.first() else { return 0 };
+    let two = |at: usize| usize::from(u16::from_be_bytes([behind[at], behind[at + 1]]));
+    let (own, stated) = match first >> 4 {
+        4 if there >= 20 => (4 * usize::from(first & 15), two(2)),
+        6 if there >= 40 => (40, 40 + two(4)),
+        _ => return there,
+    };
+    if own >= 20 && stated >= own && stated <= there && there - stated <= 4 { stated } else { there }
+}
+
+/// The type of a frame that has its type's least size.
+fn kind_of(frame: &[u8]) -> Result<u8, Refused> {
+    let Some(&first) = frame.first() else { return refused(1) };
+    let kind = first >> 4;
+    let least = match kind {
+        0 => 18,
+        1 => 11,
+        2 => return refused(2),
+        3 => 19,
+        _ => return refused(3),
+    };
+    if frame.len() < least { refused(1) } else { Ok(kind) }
+}
+
+/// What a closing PDU says, where its counts are possible.
+fn closing(frame: &[u8]) -> Result<Closing, Refused> {
+    let (stamp, packet, elapsed) = (number(&frame[1..3]), number(&frame[3..5]), number(&frame[5..9]));
+    let (packets, octets) = (number(&frame[9..12]), number(&frame[12..17]));
+    if packets < packet || octets < elapsed || octets - elapsed > 4_095 * (packets - packet) {
+        return refused(8);
+    }
+    Ok(Closing { stamp: stamp as u32, number: packet as u32, elapsed, total_packets: packets as u32, total_octets: octets })
+}
+
+fn closing_with_lengths(frame: &[u8], packets: usize, elapsed: u64) -> Result<Frame, Refused> {
+    let said = closing(frame)?;
+    if (0..packets).map(|i| length_at(frame, i)).sum::<u64>() == elapsed { Ok(Frame::ClosingWithLengths(said)) } else { refused(8) }
+}
+
 impl Reader {
     pub fn new() -> Reader {
         Reader { header: HeaderTable::new(), payload: Tables::new() }
@@ -137,18 +180,7 @@ impl Reader {
     }
 
     pub fn read(&self, frame: &[u8]) -> Result<Frame, Refused> {
-        let Some(&first) = frame.first() else { return refused(1) };
-        let kind = first >> 4;
-        let least = match kind {
-            0 => 18,
-            1 => 11,
-            2 => return refused(2),
-            3 => 19,
-            _ => return refused(3),
-        };
-        if frame.len() < least {
-            return refused(1);
-        }
+        let kind = kind_of(frame)?;
         let n = Reader::control(kind);
         same_check(4, u16::from(frame[n] >> 2), u16::from(self.header.by_octets(&frame[..n])))?;
         let stamp = number(&frame[1..3]);
@@ -156,10 +188,11 @@ impl Reader {
             return refused(5);
         }
         let (packet, elapsed) = (number(&frame[3..5]), number(&frame[5..9]));
-        let filled = (3 * packet as usize + 1) / 2;
+        let filled = (3 * packet as usize).div_ceil(2);
+        let length = if kind == 1 { kept(&frame[11..]) } else { 0 };
         let size_right = match kind {
             0 => frame.len() == 18,
-            1 => frame.len() - 11 <= 4_095,
+            1 => length <= 4_095,
             _ => (19 + filled..=19 + filled + 4).contains(&frame.len()),
         };
         if !size_right {
@@ -168,26 +201,13 @@ impl Reader {
         if kind != 0 {
             same_check(7, number(&frame[n..n + 2]) as u16 & 0x3FF, self.payload.by_slices::<16>(&frame[n + 2..]))?;
         }
-        if elapsed > 4_095 * packet {
+        if elapsed > 4_095 * packet || kind == 1 && packet == 65_535 {
             return refused(8);
         }
-        if kind == 1 {
-            if packet == 65_535 {
-                return refused(8);
-            }
-            return Ok(Frame::Data(Data { stamp: stamp as u32, number: packet as u32, elapsed, length: (frame.len() - 11) as u32 }));
+        match kind {
+            0 => closing(frame).map(Frame::Closing),
+            1 => Ok(Frame::Data(Data { stamp: stamp as u32, number: packet as u32, elapsed, length: length as u32 })),
+            _ => closing_with_lengths(frame, packet as usize, elapsed),
         }
-        let (packets, octets) = (number(&frame[9..12]), number(&frame[12..17]));
-        if packets < packet || octets < elapsed || octets - elapsed > 4_095 * (packets - packet) {
-            return refused(8);
-        }
-        let closing = Closing { stamp: stamp as u32, number: packet as u32, elapsed, total_packets: packets as u32, total_octets: octets };
-        if kind == 0 {
-            return Ok(Frame::Closing(closing));
-        }
-        if (0..packet as usize).map(|i| length_at(frame, i)).sum::<u64>() != elapsed {
-            return refused(8);
-        }
-        Ok(Frame::ClosingWithLengths(closing))
     }
 }

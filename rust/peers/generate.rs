@@ -2,6 +2,7 @@
 #![allow(dead_code)]
 
 use crate::frames::Reader;
+use crate::payloads;
 use crate::peers::Noise;
 
 fn put(frame: &mut [u8], at: usize, width: usize, value: u64) {
@@ -19,9 +20,30 @@ fn near(noise: &mut Noise, limits: &[u64]) -> u64 {
     }
 }
 
-/// A Type 0, 1 or 3 frame whose fields lie near their limits, and whose checks are right.
+/// What stands behind the checks of a data PDU: mostly an IP packet, or nearly one.
+fn payload(noise: &mut Noise) -> Vec<u8> {
+    if noise.next() % 6 == 0 {
+        let length = near(noise, &[0, 64, 1_400, 4_094]) as usize;
+        return noise.octets(length);
+    }
+    payloads::any(noise)
+}
+
+/// What stands behind the checks of a Type 3 frame: the lengths, padding of any kind, and at times an extension, which may be too long.
+fn packed(noise: &mut Noise, lengths: &[u64]) -> Vec<u8> {
+    let mut octets = Vec::new();
+    for pair in lengths.chunks(2) {
+        let two = pair[0] << 12 | pair.get(1).copied().unwrap_or(noise.next() << 8 & 0xF00) & 0xFFF;
+        octets.extend(&two.to_be_bytes()[5..if pair.len() == 2 { 8 } else { 7 }]);
+    }
+    let extension = near(noise, &[0, 4]) as usize;
+    octets.extend(noise.octets(extension));
+    octets
+}
+
+/// A Type 0, 1 or 3 frame whose fields lie near their limits, and whose checks are right. Half of them are data PDUs.
 pub fn sealed(noise: &mut Noise, reader: &Reader) -> Vec<u8> {
-    let kind = [0u8, 1, 3][noise.next() as usize % 3];
+    let kind = [0u8, 1, 3, 1][noise.next() as usize % 4];
     let lengths: Vec<u64> = (0..noise.next() % 20).map(|_| near(noise, &[0, 100, 4_094])).collect();
     let packet = if kind == 3 { lengths.len() as u64 } else { near(noise, &[0, 3, 4_096, 65_534]) };
     let elapsed = match noise.next() % 8 {
@@ -41,23 +63,11 @@ pub fn sealed(noise: &mut Noise, reader: &Reader) -> Vec<u8> {
         put(&mut frame, 9, 3, packets & 0xFF_FFFF);
         put(&mut frame, 12, 5, octets & 0xFF_FFFF_FFFF);
     }
-    match kind {
-        0 => frame.push(noise.next() as u8 & 3),
-        1 => {
-            let length = near(noise, &[0, 64, 1_400, 4_094]) as usize;
-            frame.extend([0, 0]);
-            frame.extend(noise.octets(length));
-        }
-        _ => {
-            frame.extend([0, 0]);
-            for pair in lengths.chunks(2) {
-                let two = pair[0] << 12 | pair.get(1).copied().unwrap_or(noise.next() << 8 & 0xF00) & 0xFFF;
-                frame.extend(&two.to_be_bytes()[5..if pair.len() == 2 { 8 } else { 7 }]);
-            }
-            let extension = near(noise, &[0, 4]) as usize;
-            frame.extend(noise.octets(extension));
-        }
-    }
+    frame.extend(match kind {
+        0 => vec![noise.next() as u8 & 3],
+        1 => [vec![0; 2], payload(noise)].concat(),
+        _ => [vec![0; 2], packed(noise, &lengths)].concat(),
+    });
     reader.seal(&mut frame);
     frame
 }
@@ -140,15 +150,20 @@ pub fn any_way(noise: &mut Noise, reader: &Reader) -> (usize, Vec<u8>) {
     (way, frame)
 }
 
-/// A data PDU with right checks. What its payload says is nothing to a record, so it is one octet repeated.
-pub fn data(reader: &Reader, stamp: u32, packet: u64, elapsed: u64, length: usize) -> Vec<u8> {
-    let mut frame = vec![packet as u8; 11 + length];
+/// A data PDU with right checks.
+pub fn data_with(reader: &Reader, stamp: u32, packet: u64, elapsed: u64, payload: &[u8]) -> Vec<u8> {
+    let mut frame = [&[0; 11], payload].concat();
     frame[0] = 0x10;
     put(&mut frame, 1, 2, stamp.into());
     put(&mut frame, 3, 2, packet);
     put(&mut frame, 5, 4, elapsed);
     reader.seal(&mut frame);
     frame
+}
+
+/// The same where only the payload's length matters. It is one octet repeated, so as an IP header it would state far more than is there.
+pub fn data(reader: &Reader, stamp: u32, packet: u64, elapsed: u64, length: usize) -> Vec<u8> {
+    data_with(reader, stamp, packet, elapsed, &vec![packet as u8; length])
 }
 
 /// The control part of a closing PDU in a period with two packets and 100 octets before this sequence.

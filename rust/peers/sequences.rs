@@ -2,9 +2,9 @@
 #![allow(dead_code)]
 
 use crate::frames::Reader;
-use crate::generate;
 use crate::peers::Noise;
 use crate::records::Written;
+use crate::{generate, payloads};
 use quimdoral::lent::{Held, Lists};
 use quimdoral::{Key, Refusal};
 use std::fmt;
@@ -63,6 +63,18 @@ impl Sequence {
         generate::data(reader, self.key.stamp, packet as u64, self.octets(packet), self.lengths[packet] as usize)
     }
 
+    /// The same packet as an IP packet, where it is long enough, and with 0 to 4 octets behind it, which do not count.
+    pub fn extended(&self, noise: &mut Noise, reader: &Reader, packet: usize) -> Vec<u8> {
+        let payload = payloads::extended(noise, self.lengths[packet] as usize);
+        generate::data_with(reader, self.key.stamp, packet as u64, self.octets(packet), &payload)
+    }
+
+    /// One of the packets with octets of any kind: by the length that a reader takes, it seldom is the packet that was sent.
+    pub fn replaced(&self, noise: &mut Noise, reader: &Reader) -> Vec<u8> {
+        let packet = below(noise, self.lengths.len() as u64 + 1) as usize;
+        generate::data_with(reader, self.key.stamp, packet as u64, self.octets(packet), &payloads::any(noise))
+    }
+
     pub fn closing(&self, reader: &Reader) -> Vec<u8> {
         generate::closing(reader, self.key.stamp, self.lengths.len() as u64, self.octets(self.lengths.len()))
     }
@@ -75,7 +87,8 @@ impl Sequence {
     pub fn good(&self, noise: &mut Noise, reader: &Reader) -> Vec<u8> {
         let packets = self.lengths.len() as u64;
         match below(noise, packets + 2) {
-            packet if packet < packets => self.data(reader, packet as usize),
+            packet if packet < packets && one_in(noise, 2) => self.data(reader, packet as usize),
+            packet if packet < packets => self.extended(noise, reader, packet as usize),
             place if place == packets => self.closing(reader),
             _ => self.closing_with_lengths(reader),
         }
@@ -130,6 +143,7 @@ pub fn any_length(noise: &mut Noise, wide: bool) -> u64 {
         0 => 0,
         1 => 1,
         2 => below(noise, 100),
+        3 => 18 + below(noise, 30),
         _ if wide => LONGEST - below(noise, 2) * below(noise, 2),
         _ => below(noise, 20),
     }

@@ -12,7 +12,8 @@ pub struct Data<'a> {
     pub number: Packets,
     /// The octets of the packets before it.
     pub elapsed: Octets,
-    /// The payload, 0 to 4,095 octets.
+    /// The payload, 0 to 4,095 octets. Of a frame that was read, up to four octets behind an IP packet are not among them: see
+    /// [`payload_kept`].
     pub payload: &'a [u8],
 }
 
@@ -59,6 +60,9 @@ pub(crate) fn in_vec(room: usize, write: impl FnOnce(&mut [u8]) -> Result<usize,
 impl Data<'_> {
     /// Writes the frame in front of `out` and says how many octets it has. Refusals, in this order: 5, 20, 8, 12.
     ///
+    /// The payload is written whole, whatever it is. An IP packet with one to four octets behind it is read back without these;
+    /// [`payload_kept`] tells before.
+    ///
     /// ```
     /// use quimdoral::{Data, Octets, Packets, Refusal};
     /// let data = Data { stamp: 0, number: Packets(0), elapsed: Octets(0), payload: &[1] };
@@ -72,7 +76,7 @@ impl Data<'_> {
         of_written(raw::write_data(self, out))
     }
 
-    /// The frame in a list of its own. Refusals, in this order: 5, 20, 8.
+    /// The same with the frame in a list of its own. Refusals, in this order: 5, 20, 8.
     ///
     /// ```
     /// use quimdoral::{Data, Octets, Packets, Refusal};
@@ -130,7 +134,7 @@ impl Closing {
 /// What a frame says.
 #[derive(Clone, Copy, Debug, PartialEq, Eq, Hash)]
 pub enum Frame<'a> {
-    /// Type 1: a packet.
+    /// Type 1: a packet. Where an extension stood behind it, it was dropped.
     Data(Data<'a>),
     /// Type 0: the end of a sequence.
     Closing(Closing),
@@ -150,6 +154,9 @@ impl Frame<'_> {
 
 /// Reads a frame. Refusals, in this order: 1 for an empty frame, 2, 3, 1, 4, 5, 6, 7, 8; with 4 and 7 the check found and the check worked
 /// out are told.
+///
+/// The payload of a data PDU begins at the twelfth octet, and has as many octets as [`payload_kept`] says of all that stands there: up to
+/// four octets behind an IP packet are dropped. Refusal 6 judges what is left, and the payload check covers everything.
 ///
 /// ```
 /// use quimdoral::{Checks, Frame, Octets, Packets, ReadRefusal, Refusal, frames};
@@ -183,6 +190,34 @@ pub fn read(frame: &[u8]) -> Result<Frame<'_>, ReadRefusal> {
         _ => Frame::ClosingWithLengths(closing(said)),
     });
     told.map_err(ReadRefusal::answered)
+}
+
+/// How many octets of a payload a reader takes. Where it begins as an IPv4 or IPv6 packet, and 0 to 4 octets stand behind the length that
+/// the IP header states, that length: whoever reads or hears the frame drops the octets behind it as an extension (clause 5.5.3.14).
+///
+/// Otherwise all of them: where the header is incomplete (fewer than 20 octets of IPv4, or 40 of IPv6), has another version or an IHL under
+/// 5, or states less than its own header, more than is there, or over four octets less. Nothing else of the header is judged.
+///
+/// ```
+/// use quimdoral::{Data, Frame, Octets, Packets, Refusal, frames};
+/// let mut payload = [0; 24];
+/// payload[..4].copy_from_slice(&[0x45, 0, 0, 20]); // IPv4, a header of 5 times 4 octets, 20 octets in all
+/// assert_eq!([20, 22, 24].map(|length| frames::payload_kept(&payload[..length])), [20; 3]);
+/// assert_eq!(frames::payload_kept(&payload[..19]), 19); // not all of a header
+/// assert_eq!(frames::payload_kept(b"Flood warning"), 13);
+///
+/// let data = Data { stamp: 0, number: Packets(0), elapsed: Octets(0), payload: &payload[..22] };
+/// let frame = data.to_vec()?;
+/// assert_eq!(frame.len(), 11 + 22);
+/// assert_eq!(frames::read(&frame)?, Frame::Data(Data { payload: &payload[..20], ..data }));
+/// payload[3] = 19; // less than the header has
+/// assert_eq!(frames::payload_kept(&payload[..22]), 22);
+/// # Ok::<(), Refusal>(())
+/// ```
+#[inline]
+pub fn payload_kept(payload: &[u8]) -> usize {
+    // The number fits: it is at most the payload's length.
+    raw::payload_kept(payload) as usize
 }
 
 /// Reads the payload lengths of a Type 3 frame to the front of `lengths`, and says how many there are; a frame of Type 0 or 1 has none.

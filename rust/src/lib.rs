@@ -9,7 +9,7 @@
 //! | [`sender`] | the sender of one bearer, which counts and writes frames |
 //! | [`record`] | the reception record of one sequence: it hears frames, and is joined with other receivers' records |
 //! | [`report`] | what was sent, heard and missing, and the gaps |
-//! | [`frames`] | frames read, and written from given fields |
+//! | [`frames`] | frames read, and written from given fields; how much of a payload a reader keeps |
 //! | [`clock`] | the stamp of a moment, due times, lateness |
 //! | [`refusal`] | why a call was refused |
 //! | [`lent`] | the same calls on memory of the caller's own |

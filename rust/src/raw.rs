@@ -14,6 +14,7 @@ unsafe extern "C" {
     fn quimdoral_payload_check(octets: *const u8, octets_length: usize) -> u16;
     fn quimdoral_read_frame(frame: *const u8, frame_length: usize, said: *mut u64, said_length: usize) -> u64;
     fn quimdoral_read_lengths(frame: *const u8, frame_length: usize, lengths: *mut u16, lengths_length: usize) -> u64;
+    fn quimdoral_payload_kept(payload: *const u8, payload_length: usize) -> u64;
     fn quimdoral_write_data(
         stamp: u32, number: u32, elapsed: u64,
         payload: *const u8, payload_length: usize,
@@ -135,6 +136,12 @@ pub fn read_frame<T>(frame: &[u8], tell: impl FnOnce(&Said) -> T) -> Result<T, u
 pub fn read_lengths(frame: &[u8], lengths: &mut [u16]) -> u64 {
     // SAFETY: slices, the one that is written to borrowed exclusively.
     unsafe { quimdoral_read_lengths(frame.as_ptr(), frame.len(), lengths.as_mut_ptr(), lengths.len()) }
+}
+
+#[inline]
+pub fn payload_kept(payload: &[u8]) -> u64 {
+    // SAFETY: a slice, which is only read.
+    unsafe { quimdoral_payload_kept(payload.as_ptr(), payload.len()) }
 }
 
 #[inline]

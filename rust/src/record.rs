@@ -35,7 +35,7 @@ pub struct Closed {
 pub struct Heard {
     /// The octets of the packets before it.
     pub elapsed: Octets,
-    /// The octets of its payload.
+    /// The octets of its payload, an extension not counted.
     pub length: Octets,
 }
 
@@ -122,6 +122,8 @@ impl Record {
 
     /// Takes a frame that came in a bearer and a period. What is held already is accepted and changes nothing. Refusals, in this order: 14,
     /// those of [`frames::read`](crate::frames::read), 13, 9, 10, 11.
+    ///
+    /// Of a packet the length is recorded that reading gives: up to four octets behind an IP packet do not count.
     ///
     /// Each call goes over the whole record to judge it. Where many frames are at hand, [`Record::hear_all`] is quicker.
     ///

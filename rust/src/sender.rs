@@ -119,6 +119,26 @@ impl Sender {
 
     /// Sends a packet of the sequence that is open: writes a Type 1 frame in front of `out`, and says how many octets it has. Refusals, in
     /// this order: 21, 15, 20, 17, 18, 12.
+    ///
+    /// All octets of the payload are sent and counted. Receivers drop up to four octets behind an IP packet, and count them nowhere: a
+    /// payload that ends in such octets is heard shorter than it was sent, so that the frames behind it contradict it. Give packets
+    /// without them; [`frames::payload_kept`](crate::frames::payload_kept) tells.
+    ///
+    /// ```
+    /// use quimdoral::{Key, ReadRefusal, Record, Refusal, Sender, frames};
+    /// let mut payload = [0; 22];
+    /// payload[..4].copy_from_slice(&[0x45, 0, 0, 20]); // an IPv4 packet of 20 octets, and two that are no part of it
+    /// let packet = &payload[..frames::payload_kept(&payload)];
+    /// for (payload, answer) in [(packet, Ok(())), (&payload, Err(ReadRefusal::Refused(Refusal::Contradiction)))] {
+    ///     let mut sender = Sender::new();
+    ///     sender.open(100)?;
+    ///     let (data, closing) = (sender.data_to_vec(payload)?, sender.close_to_vec()?);
+    ///     let mut record = Record::fresh(Key { bearer: 7, period: 3, stamp: 100 }, 4)?;
+    ///     record.hear(7, 3, &data)?;
+    ///     assert_eq!(record.hear(7, 3, &closing), answer);
+    /// }
+    /// # Ok::<(), Refusal>(())
+    /// ```
     #[inline]
     pub fn data(&mut self, payload: &[u8], out: &mut [u8]) -> Result<usize, Refusal> {
         lent::sender_data(&mut self.numbers, payload, out)

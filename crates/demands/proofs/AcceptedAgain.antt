@@ -2,10 +2,10 @@
 use Prim.Native.Nat.{ℕ, zero, suc, _+_, _*_, _/_, _%_, _^_, _≤_, _<_}
 use native.Mathlib.Nat.{add-zero, zero-add}
 use native.Mathlib.Omega.{arith}
-use mathlib.Core.Path.{_≡_, refl, ap, _∙_}
+use mathlib.Core.Path.{_≡_, refl, sym, ap, _∙_}
 use mathlib.Core.Bool.{false}
 use mathlib.Core.List.{List}
-use lib.ListN.{length, getD, drop, length-drop}
+use lib.ListN.{length, getD}
 use borrow.Author.Tests.{le-ltb, lt-leb, eq-eqb}
 use Rattle.units.specs.Limits.{lastStamp, mostPayload, mostInSequence}
 use Rattle.fields.specs.Numbers.{be}
@@ -14,8 +14,9 @@ use Rattle.frame.specs.declared.ClosingPdu.{ClosingPdu}
 use Rattle.frame.specs.declared.DataPdu.{DataPdu}
 use Rattle.frame.specs.declared.Written.the-variants.{Done}
 use Rattle.frame.specs.Counts.{dataWrong, closingWrong, tooWide, givenWrong, anyAbove, sumOf, listWrong}
-use Rattle.frame.specs.Layout.{upperOrLower, lengthAt, filled, sumLengths, lengthsOf}
+use Rattle.frame.specs.Layout.{payloadOf, upperOrLower, lengthAt, filled, sumLengths, lengthsOf}
 use Rattle.frame.specs.Writing.{writeData, writeClosing, writeLengths}
+use Rattle.frame.proofs.Payloads.{payload-length}
 use Rattle.frame.proofs.Said.{DataSaid, ClosingSaid}
 
 -- the lengths of a Type 3 frame: as many, each of 12 bits, and their sum
@@ -46,17 +47,16 @@ lengths-sum s i (suc n) =
     omega (arith, e)
 
 -- a data PDU
-pub data-writable : (s : List ℕ) (d : DataPdu) (room : ℕ) → DataSaid s d → length s ≤ room
-    → writeData (d .stamp) (d .number .0) (d .elapsed .0) (length (drop 11 s)) room ≡ Done (length s)
+pub data-writable : (s : List ℕ) (d : DataPdu) (room : ℕ) → DataSaid s d → length s ≡ 11 + d .length .0 → length s ≤ room
+    → writeData (d .stamp) (d .number .0) (d .elapsed .0) (length (payloadOf s)) room ≡ Done (length s)
 unfolding writeData dataWrong
-data-writable s d room h fits =
-    let l = length-drop 11 s in
-    let z = h .size in
+data-writable s d room h z fits =
+    let l : length (payloadOf s) ≡ d .length .0 = payload-length s ∙ ap (λ (x : DataPdu). x .length .0) (sym (h .fields)) in
     let n = h .short in
-    let e : 11 + length (drop 11 s) ≡ length s = omega (arith, l, z) in
+    let e : 11 + length (payloadOf s) ≡ length s = omega (arith, l, z) in
     simp (
       le-ltb lastStamp (d .stamp) (h .stamp),
-      le-ltb mostPayload (length (drop 11 s)) (omega (arith, l, z, n)),
+      le-ltb mostPayload (length (payloadOf s)) (omega (arith, l, n)),
       lt-leb mostInSequence (d .number .0) (h .number),
       le-ltb (mostPayload * d .number .0) (d .elapsed .0) (h .elapsed),
       e,

@@ -87,6 +87,7 @@ one-outcome =
     record {
       header-check = λ s. same _;
       payload-check = λ s. same _;
+      payload-kept = λ s. same _;
       read-frame = λ s. fixed-by _ (readFrame s) (λ r p. read-known r (readFrame s) p);
       read-lengths = lists;
       write-data = λ stamp n e p old. wrote _ _ old;

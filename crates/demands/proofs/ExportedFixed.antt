@@ -7,6 +7,7 @@ one-exported =
     record {
       header-check = λ s x y p q. p ∙ sym q;
       payload-check = λ s x y p q. p ∙ sym q;
+      payload-kept = λ s x y p q. p ∙ sym q;
       read-frame = λ w old x y p q. let a = p .says ∙ sym (q .says) in let b = p .leaves ∙ sym (q .leaves) in λ i. (a i, b i);
       read-lengths = λ s old x y p q. let a = p .says ∙ sym (q .says) in let b = p .leaves ∙ sym (q .leaves) in λ i. (a i, b i);
       write = λ w frame old x y p q. let a = p .says ∙ sym (q .says) in let b = p .leaves ∙ sym (q .leaves) in λ i. (a i, b i);

@@ -2,13 +2,13 @@
 use Prim.Native.Nat.{ℕ}
 use native.Mathlib.Omega.{arith}
 use mathlib.Core.Path.{_≡_, refl, sym, ap, _∙_}
-use mathlib.Core.List.{List, [], _∷_}
-use lib.ListN.{getD}
+use mathlib.Core.List.{List, [], _∷_, _++_}
+use lib.ListN.{getD, replicate}
 use Rattle.fields.specs.Numbers.{be, octets}
 use Rattle.checks.specs.Check.{divide, lowDigits, bitsOf, check}
 use Rattle.frame.specs.Counts.{someOf, dataWrong}
 use Rattle.frame.specs.Paper.{ReadPaper, CountPaper, readPaper, writtenPaper}
-use Rattle.frame.specs.Layout.{payloadOf}
+use Rattle.frame.specs.Payloads.{startsV4, startsV6, payloadKept}
 use Rattle.frame.specs.Reading.{readFrame, readHeaded, readBody}
 use Rattle.frame.specs.Writing.{dataFrame, writeData}
 use Rattle.reception.specs.Adding.{packetContradicts, closingContradicts}
@@ -24,17 +24,25 @@ use Rattle.demands.specs.ShutOut.{ShutOut}
 
 -- B is accepted
 B-kind : readPaper (readFrame B) .kind ≡ 2
-unfolding be divide lowDigits bitsOf check readPaper readFrame readHeaded readBody payloadOf dataWrong
+unfolding be divide lowDigits bitsOf check readPaper readFrame readHeaded readBody payloadKept startsV4 startsV6 dataWrong
 B-kind = refl
 
 -- A and B say other lengths
 A-payload : readPaper (readFrame A) .payload ≡ 0
-unfolding be divide lowDigits bitsOf check readPaper readFrame readHeaded readBody payloadOf dataWrong
+unfolding be divide lowDigits bitsOf check readPaper readFrame readHeaded readBody payloadKept startsV4 startsV6 dataWrong
 A-payload = refl
 
 B-payload : readPaper (readFrame B) .payload ≡ 1
-unfolding be divide lowDigits bitsOf check readPaper readFrame readHeaded readBody payloadOf dataWrong
+unfolding be divide lowDigits bitsOf check readPaper readFrame readHeaded readBody payloadKept startsV4 startsV6 dataWrong
 B-payload = refl
+
+-- an IPv4 packet of twenty octets with two behind it, as a first packet
+abbrev extended : List ℕ
+extended = 0x10 ∷ replicate 8 0 ++ (0x3B ∷ 0x98 ∷ 0x45 ∷ 0 ∷ 0 ∷ 20 ∷ replicate 16 0 ++ (0xAA ∷ 0xBB ∷ []))
+
+extended-read : (readPaper (readFrame extended) .kind ≡ 2) × (readPaper (readFrame extended) .payload ≡ 20)
+unfolding be divide lowDigits bitsOf check readPaper readFrame readHeaded readBody payloadKept startsV4 startsV6 dataWrong
+extended-read = (refl, refl)
 
 -- A can be written
 A-writable : writtenPaper (writeData 0 0 0 0 11) .accepted ≡ 1
@@ -58,7 +66,7 @@ abbrev second : List ℕ
 second = dataFrame 0 1 1 (9 ∷ [])
 
 second-heard : getD (hearFrame afterB 7 3 second .kept .marks) 1 0 ≡ 1
-unfolding be octets divide lowDigits bitsOf check readFrame readHeaded readBody payloadOf dataWrong dataFrame someOf reach fits mayEnd walk isExplained packetContradicts placeWrong placesWrong closingOff walkFails damagedRecord listsDiffer otherKey hearPacket hearRead hearFrame
+unfolding be octets divide lowDigits bitsOf check readFrame readHeaded readBody payloadKept startsV4 startsV6 dataWrong dataFrame someOf reach fits mayEnd walk isExplained packetContradicts placeWrong placesWrong closingOff walkFails damagedRecord listsDiffer otherKey hearPacket hearRead hearFrame
 second-heard = refl
 
 different : {m n : ℕ} → m ≡ n → m ≡ 0 → n ≡ 1 → ⊥
@@ -75,6 +83,12 @@ shut-out =
           omega (arith, e, k, z);
       replies-the-same = λ f meets all.
           different (ap (λ (p : ReadPaper). p .payload) (sym (meets A) ∙ ap readPaper (all A B) ∙ meets B)) A-payload B-payload;
+      counts-extensions = λ f meets all.
+          let e = meets extended in
+          let k = ap (λ (p : ReadPaper). p .kind) e ∙ extended-read .0 in
+          let l = ap (λ (p : ReadPaper). p .payload) e ∙ extended-read .1 in
+          let z = all extended k in
+          omega (arith, l, z);
       joins-nothing = λ f meets all.
           different (ap (λ (k : Kept). getD (k .marks) 0 0) (sym (all nothing afterB) ∙ meets nothing afterB .leaves)) refl B-joined;
       takes-first-only = λ f meets all.

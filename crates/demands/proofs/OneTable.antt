@@ -11,7 +11,8 @@ use Rattle.checks.specs.Check.{divide, lowDigits, bitsOf, check}
 use Rattle.clock.specs.Clock.{past, dueAt, nearest, late}
 use Rattle.clock.specs.Paper.{duePaper}
 use Rattle.frame.specs.Counts.{someOf, sumOf, dataWrong, closingWrong, lengthsWrong}
-use Rattle.frame.specs.Layout.{payloadOf, lengthAt, sumLengths}
+use Rattle.frame.specs.Payloads.{startsV4, startsV6, payloadKept}
+use Rattle.frame.specs.Layout.{lengthAt, sumLengths}
 use Rattle.frame.specs.Paper.{readPaper}
 use Rattle.frame.specs.Reading.{readFrame, readHeaded, readBody}
 use Rattle.frame.specs.Writing.{dataFrame, closingFrame, lengthsFrame, packed}
@@ -43,7 +44,7 @@ each-row (r ∷ rs) e =
 
 -- the test
 table-agrees : agree table ≡ true
-unfolding damaged openCall dataCall someOf reach fits mayEnd walk isExplained packetContradicts placeWrong placesWrong closingOff walkFails damagedRecord be octets divide lowDigits bitsOf check past dueAt nearest late duePaper sumOf dataWrong closingWrong lengthsWrong payloadOf lengthAt sumLengths readPaper readFrame readHeaded readBody dataFrame closingFrame lengthsFrame packed listsDiffer otherKey hearPacket hearRead hearFrame takenPaper answersTo alike agree
+unfolding damaged openCall dataCall someOf reach fits mayEnd walk isExplained packetContradicts placeWrong placesWrong closingOff walkFails damagedRecord be octets divide lowDigits bitsOf check past dueAt nearest late duePaper sumOf dataWrong closingWrong lengthsWrong payloadKept startsV4 startsV6 lengthAt sumLengths readPaper readFrame readHeaded readBody dataFrame closingFrame lengthsFrame packed listsDiffer otherKey hearPacket hearRead hearFrame takenPaper answersTo alike agree
 table-agrees = refl
 
 -- all of the table

@@ -1,11 +1,13 @@
 -- Demand 2 holds. Assumes nothing.
 use Prim.Native.Nat.{ℕ, zero, suc, _+_, _%_, _≤_}
 use native.Mathlib.Omega.{arith}
-use mathlib.Core.Path.{_≡_, refl, sym, ap, subst, _∙_}
+use mathlib.Core.Path.{_≡_, refl, sym, ap, ap₂, subst, _∙_}
+use mathlib.Core.Logic.{_⊎_, inl, inr, ⊎-elim}
 use mathlib.Core.Bool.{false, not}
 use mathlib.Core.List.{List}
 use lib.Dec.{ltb, eqb}
 use lib.ListN.{length, getD, take, drop}
+use lib.Seq.{take-all, take-at, take-length}
 use borrow.Author.Tests.{eqb-true, not-false}
 use Rattle.units.specs.declared.Refusal.{Refusal}
 use Rattle.units.specs.Limits.{lastStamp, mostPayload}
@@ -17,22 +19,25 @@ use Rattle.fields.proofs.Laying.{take-front}
 use Rattle.fields.proofs.Tests.{or-false}
 use Rattle.checks.specs.Check.{payloadCheck}
 use Rattle.frame.specs.declared.ClosingPdu.{ClosingPdu}
+use Rattle.frame.specs.declared.DataPdu.{DataPdu}
 use Rattle.frame.specs.declared.Read.{Read}
 use Rattle.frame.specs.declared.Read.the-variants.{Closing, Data, ClosingWithLengths, Refused}
 use Rattle.frame.specs.declared.Written.{Written}
 use Rattle.frame.specs.declared.Written.the-variants.{Done}
 use Rattle.frame.specs.Counts.{dataWrong, closingWrong, lengthsWrong}
-use Rattle.frame.specs.Layout.{typeOf, control, payloadCheckIn, payloadPart, filled, lengthsOf, closingOf}
+use Rattle.frame.specs.Layout.{typeOf, control, payloadCheckIn, payloadPart, payloadLength, payloadOf, filled, lengthsOf, dataOf, closingOf}
 use Rattle.frame.specs.Paper.{readPaper, writtenPaper}
+use Rattle.frame.specs.Payloads.{payloadKept, AllPayload, Extended}
 use Rattle.frame.specs.Reading.{checkWrong, said, readFrame}
 use Rattle.frame.specs.Writing.{refuseWrite, writeData, writeClosing, writeLengths, dataFrame, closingFrame, lengthsFrame, after}
 use Rattle.frame.proofs.Accepted.{good-read, read-closing, read-with-lengths}
 use Rattle.frame.proofs.OnePaper.{read-known, written-known}
+use Rattle.frame.proofs.Payloads.{dropped, only-dropped}
 use Rattle.frame.proofs.Said.{data-said, closing-said, lengths-said}
 use Rattle.frame.proofs.WhatWentIn.{data-length, data-went-in, closing-went-in, lengths-went-in}
 use Rattle.frame.proofs.WrittenAgain.{Plain, data-again, closing-again, lengths-again}
 use Rattle.writer.specs.Promise.{Wrote}
-use Rattle.demands.specs.Demand2.{ReadAs, BothChecks, SpareZero, Demand2}
+use Rattle.demands.specs.Demand2.{ReadAs, BothChecks, SpareZero, dataPdu, Demand2}
 use Rattle.demands.proofs.AcceptedAgain.{lengths-long, data-writable, closing-writable, lengths-writable, list-writable}
 
 -- an accepted answer is no refusal
@@ -80,14 +85,25 @@ size-of stamp n e l room k h =
     let p4 = past (refuseWrite noRoom) (Done (11 + l)) (Done k) (ltb room (11 + l)) (no-refusal k noRoom) (p3 .1) in
     ap (λ (x : Written). writtenPaper x .count) (p4 .1)
 
-payload-is : (stamp n e : ℕ) (p : List ℕ) → drop 11 (dataFrame stamp n e p) ≡ p
+payload-is : (stamp n e : ℕ) (p : List ℕ) → payloadOf (dataFrame stamp n e p) ≡ take (payloadKept p) p
 unfolding octets dataFrame
 payload-is stamp n e p = refl
 
-payload-there : (stamp n e : ℕ) (p old : List ℕ) (k : ℕ) → 11 + length p ≡ k → drop 11 (take k (after (Done k) (dataFrame stamp n e p) old)) ≡ p
+payload-there : (stamp n e : ℕ) (p old : List ℕ) (k : ℕ) → 11 + length p ≡ k
+    → payloadOf (take k (after (Done k) (dataFrame stamp n e p) old)) ≡ take (payloadKept p) p
 unfolding after
 payload-there stamp n e p old k z =
-    ap (drop 11) (take-front old (dataFrame stamp n e p) k (data-length stamp n e p ∙ z)) ∙ payload-is stamp n e p
+    ap payloadOf (take-front old (dataFrame stamp n e p) k (data-length stamp n e p ∙ z)) ∙ payload-is stamp n e p
+
+data-back-written : (stamp n e : ℕ) (p old : List ℕ) (k : ℕ) (new : List ℕ) (r : Read)
+    → Wrote (writeData stamp n e (length p) (length old)) (dataFrame stamp n e p) old (Done k) new → ReadAs (take k new) r
+    → (r ≡ Data (dataPdu stamp n e (payloadKept p))) × (payloadOf (take k new) ≡ take (payloadKept p) p)
+data-back-written stamp n e p old k new r w h =
+    let q = ap (take k) (left-is _ _ old k new w) in
+    let d = done-is _ _ old k new w in (
+      read-of _ _ r _ h q (data-went-in stamp n e (length old) k p old d),
+      ap payloadOf q ∙ payload-there stamp n e p old k (size-of stamp n e (length p) (length old) k d),
+    )
 
 -- what writing again leaves
 again : (a : Written) (frame old : List ℕ) (k : ℕ) (r : Written) (new s : List ℕ) → Wrote a frame old r new → a ≡ Done k → k ≡ length s → frame ≡ s
@@ -103,6 +119,18 @@ plain s z = record { octet = z .octet; spare = z .spare }
 
 read-as : (s : List ℕ) (x : Read) → ReadAs s x → readFrame s ≡ x
 read-as s x e = sym (read-known x (readFrame s) e)
+
+-- the fields of a data PDU that was read
+data-fields : (s : List ℕ) (d : DataPdu) → ReadAs s (Data d) → d ≡ dataOf s
+data-fields s d e = data-said s d (read-as s (Data d) e) .fields
+
+nothing-else-dropped : (s : List ℕ) (d : DataPdu) → ReadAs s (Data d) → (payloadOf s ≡ drop 11 s) ⊎ Extended (drop 11 s) (d .length .0)
+nothing-else-dropped s d e =
+    let l : d .length .0 ≡ payloadLength s = ap (λ (y : DataPdu). y .length .0) (data-fields s d e) in
+    ⊎-elim
+    (λ (all : AllPayload (drop 11 s)). inl (take-all (payloadLength s) (drop 11 s) (omega (arith, all))))
+    (λ (x : Extended (drop 11 s) (payloadLength s)). inr (rw l x))
+    (only-dropped (drop 11 s))
 
 closing-again-written : (s : List ℕ) (c : ClosingPdu) (old : List ℕ) (r : Written) (new : List ℕ) → SpareZero s → getD s 17 0 % 4 ≡ 0
     → ReadAs s (Closing c) → length s ≤ length old → Wrote (writeClosing c (length old)) (closingFrame c) old r new → (r ≡ Done (length s)) × (new ≡ front old s)
@@ -135,21 +163,23 @@ pub demand-2 : Demand2
 demand-2 =
     record {
       checked = checked;
-      data-back = λ stamp n e p old k new r w h.
-          let q = ap (take k) (left-is _ _ old k new w) in
-          let d = done-is _ _ old k new w in (
-            read-of _ _ r _ h q (data-went-in stamp n e (length old) k p old d),
-            ap (drop 11) q ∙ payload-there stamp n e p old k (size-of stamp n e (length p) (length old) k d),
-          );
+      extension-dropped = λ s p x d e q i few.
+          let l : payloadLength s ≡ length p = ap payloadKept q ∙ dropped p x i few in
+          (ap (λ (y : DataPdu). y .length .0) (data-fields s d e) ∙ l, ap₂ take l q ∙ take-at p x (length p) refl);
+      nothing-else = nothing-else-dropped;
+      data-back = data-back-written;
+      data-back-whole = λ stamp n e p old k new r all w h.
+          let b = data-back-written stamp n e p old k new r w h in
+          (b .0 ∙ ap (λ (l : ℕ). Data (dataPdu stamp n e l)) all, b .1 ∙ ap (λ (l : ℕ). take l p) all ∙ take-length p);
       closing-back = λ c old k new r w e.
           read-of _ _ r _ e (ap (take k) (left-is _ _ old k new w)) (closing-went-in c (length old) k old (done-is _ _ old k new w));
       lengths-back = λ c ls old k new r w e.
           let q = ap (take k) (left-is _ _ old k new w) in
           let h = lengths-went-in c ls (length old) k old (done-is _ _ old k new w) in
           (read-of _ _ r _ e q (h .0), ap (λ (x : List ℕ). lengthsOf x 0 (c .number .0)) q ∙ h .1);
-      data-again = λ s d old r new z e fits w.
+      data-again = λ s d old r new z l e fits w.
           let x = read-as s (Data d) e in
-          again _ _ old (length s) r new s w (data-writable s d (length old) (data-said s d x) fits) refl (data-again s d (plain s z) x);
+          again _ _ old (length s) r new s w (data-writable s d (length old) (data-said s d x) l fits) refl (data-again s d (plain s z) l x);
       closing-again = closing-again-written;
       lengths-again = lengths-again-written;
     }

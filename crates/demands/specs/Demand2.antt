@@ -3,7 +3,8 @@
 -- Assumes nothing.
 use Prim.Native.Nat.{ℕ, _+_, _%_, _≤_, _<_}
 use mathlib.Core.Path.{_≡_}
-use mathlib.Core.List.{List}
+use mathlib.Core.Logic.{_⊎_}
+use mathlib.Core.List.{List, _++_}
 use lib.ListN.{length, getD, take, drop}
 use Rattle.fields.specs.Runs.{front}
 use Rattle.checks.specs.Check.{headerCheck, payloadCheck}
@@ -13,8 +14,9 @@ use Rattle.frame.specs.declared.Read.{Read}
 use Rattle.frame.specs.declared.Read.the-variants.{Closing, Data, ClosingWithLengths}
 use Rattle.frame.specs.declared.Written.{Written}
 use Rattle.frame.specs.declared.Written.the-variants.{Done}
-use Rattle.frame.specs.Layout.{typeOf, control, headerCheckIn, payloadCheckIn, payloadPart, filled, lengthsOf}
+use Rattle.frame.specs.Layout.{typeOf, control, headerCheckIn, payloadCheckIn, payloadPart, payloadOf, filled, lengthsOf}
 use Rattle.frame.specs.Paper.{readPaper}
+use Rattle.frame.specs.Payloads.{payloadKept, AllPayload, IpPacket, Extended}
 use Rattle.frame.specs.Reading.{said, readFrame}
 use Rattle.frame.specs.Sizes.{dataHead, longControl, lengthsHead}
 use Rattle.frame.specs.Writing.{writeData, writeClosing, writeLengths, dataFrame, closingFrame, lengthsFrame}
@@ -34,26 +36,37 @@ pub record SpareZero (s : List ℕ) : Type 0 where
   pub octet : (i : ℕ) → getD s i 0 < 256
   pub spare : getD s 0 0 % 16 ≡ 0
 
--- a data PDU of these fields
-abbrev pub dataPdu : ℕ → ℕ → ℕ → List ℕ → DataPdu
-dataPdu stamp n e p = record { stamp = stamp; number = record { 0 = n }; elapsed = record { 0 = e }; length = record { 0 = length p } }
+-- a data PDU of these fields and a payload of l octets
+abbrev pub dataPdu : ℕ → ℕ → ℕ → ℕ → DataPdu
+dataPdu stamp n e l = record { stamp = stamp; number = record { 0 = n }; elapsed = record { 0 = e }; length = record { 0 = l } }
 
 -- the demand
 pub record Demand2 : Type 0 where
   -- what is accepted has both checks, and says what its octets say at their places
   pub checked : (s : List ℕ) (r : Read) → ReadAs s r → (readPaper r .kind ≡ 0 → ⊥) → BothChecks s × (r ≡ said (typeOf s) s)
-  -- "Reading what we wrote gives back what went in"
+  -- request 2: of an IP packet and at most four octets behind it the packet is payload, whoever wrote the frame
+  pub extension-dropped : (s p x : List ℕ) (d : DataPdu) → ReadAs s (Data d) → drop dataHead s ≡ p ++ x → IpPacket p → length x ≤ 4
+      → (d .length .0 ≡ length p) × (payloadOf s ≡ p)
+  -- and nothing else is dropped
+  pub nothing-else : (s : List ℕ) (d : DataPdu) → ReadAs s (Data d)
+      → (payloadOf s ≡ drop dataHead s) ⊎ Extended (drop dataHead s) (d .length .0)
+  -- "Reading what we wrote gives back what went in": of a payload, what the rule keeps
   pub data-back : (stamp n e : ℕ) (p old : List ℕ) (k : ℕ) (new : List ℕ) (r : Read)
       → Wrote (writeData stamp n e (length p) (length old)) (dataFrame stamp n e p) old (Done k) new → ReadAs (take k new) r
-      → (r ≡ Data (dataPdu stamp n e p)) × (drop dataHead (take k new) ≡ p)
+      → (r ≡ Data (dataPdu stamp n e (payloadKept p))) × (payloadOf (take k new) ≡ take (payloadKept p) p)
+  -- which is all of it with "payloads from which this rule drops nothing"
+  pub data-back-whole : (stamp n e : ℕ) (p old : List ℕ) (k : ℕ) (new : List ℕ) (r : Read) → AllPayload p
+      → Wrote (writeData stamp n e (length p) (length old)) (dataFrame stamp n e p) old (Done k) new → ReadAs (take k new) r
+      → (r ≡ Data (dataPdu stamp n e (length p))) × (payloadOf (take k new) ≡ p)
   pub closing-back : (c : ClosingPdu) (old : List ℕ) (k : ℕ) (new : List ℕ) (r : Read)
       → Wrote (writeClosing c (length old)) (closingFrame c) old (Done k) new → ReadAs (take k new) r → r ≡ Closing c
   pub lengths-back : (c : ClosingPdu) (ls old : List ℕ) (k : ℕ) (new : List ℕ) (r : Read)
       → Wrote (writeLengths c ls (length old)) (lengthsFrame c ls) old (Done k) new → ReadAs (take k new) r
       → (r ≡ ClosingWithLengths c) × (lengthsOf (take k new) 0 (c .number .0) ≡ ls)
   -- "writing again what was read gives the same octets", in front of memory that has room for them
-  pub data-again : (s : List ℕ) (d : DataPdu) (old : List ℕ) (r : Written) (new : List ℕ) → SpareZero s → ReadAs s (Data d) → length s ≤ length old
-      → Wrote (writeData (d .stamp) (d .number .0) (d .elapsed .0) (length (drop dataHead s)) (length old)) (dataFrame (d .stamp) (d .number .0) (d .elapsed .0) (drop dataHead s)) old r new
+  pub data-again : (s : List ℕ) (d : DataPdu) (old : List ℕ) (r : Written) (new : List ℕ) → SpareZero s → length s ≡ dataHead + d .length .0
+      → ReadAs s (Data d) → length s ≤ length old
+      → Wrote (writeData (d .stamp) (d .number .0) (d .elapsed .0) (length (payloadOf s)) (length old)) (dataFrame (d .stamp) (d .number .0) (d .elapsed .0) (payloadOf s)) old r new
       → (r ≡ Done (length s)) × (new ≡ front old s)
   pub closing-again : (s : List ℕ) (c : ClosingPdu) (old : List ℕ) (r : Written) (new : List ℕ) → SpareZero s → getD s longControl 0 % 4 ≡ 0
       → ReadAs s (Closing c) → length s ≤ length old → Wrote (writeClosing c (length old)) (closingFrame c) old r new

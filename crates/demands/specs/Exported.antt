@@ -8,6 +8,7 @@ use Rattle.checks.specs.Check.{headerCheck, payloadCheck}
 use Rattle.clock.specs.Clock.{stampOf, dueAt, late}
 use Rattle.frame.specs.declared.Written.{Written}
 use Rattle.frame.specs.Paper.{ReadPaper}
+use Rattle.frame.specs.Payloads.{payloadKept}
 use Rattle.sender.specs.declared.Dispatch.{Dispatch}
 use Rattle.sender.specs.declared.Turning.{Turning}
 use Rattle.reception.specs.declared.Taken.{Taken}
@@ -29,6 +30,8 @@ pub record OneExported : Type 0 where
   -- `quimdoral_read_frame`, `quimdoral_read_lengths`
   pub read-frame : (p : ReadPaper) (old : List ℕ) → Fixes (λ (o : ℕ × Lent). ReadOut p old (o .0) (o .1))
   pub read-lengths : (s old : List ℕ) → Fixes (λ (o : ℕ × Lent). ListsInOne s old (o .0) (o .1))
+  -- `quimdoral_payload_kept`
+  pub payload-kept : (p : List ℕ) → Fixes (λ (r : ℕ). r ≡ payloadKept p)
   -- `quimdoral_write_data`, `quimdoral_write_closing`, `quimdoral_write_closing_with_lengths`
   pub write : (a : Written) (frame old : List ℕ) → Fixes (λ (o : ℕ × Lent). Writes a frame old (o .0) (o .1))
   -- `quimdoral_sender_fresh`; `_open` and `_new_period`; `_data`, `_close` and `_close_with_lengths`

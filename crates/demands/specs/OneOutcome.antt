@@ -15,6 +15,7 @@ use Rattle.frame.specs.declared.Read.{Read}
 use Rattle.frame.specs.declared.Listed.{Listed}
 use Rattle.frame.specs.declared.Written.{Written}
 use Rattle.frame.specs.Paper.{readPaper}
+use Rattle.frame.specs.Payloads.{payloadKept}
 use Rattle.frame.specs.Reading.{readFrame}
 use Rattle.frame.specs.Writing.{writeData, writeClosing, writeLengths, dataFrame, closingFrame, lengthsFrame}
 use Rattle.reader.specs.Lists.{Lists}
@@ -44,6 +45,7 @@ Lent = List ℕ
 pub record OneOutcome : Type 0 where
   pub header-check : (s : List ℕ) → Fixes (λ (r : ℕ). r ≡ headerCheck s)
   pub payload-check : (s : List ℕ) → Fixes (λ (r : ℕ). r ≡ payloadCheck s)
+  pub payload-kept : (p : List ℕ) → Fixes (λ (r : ℕ). r ≡ payloadKept p)
   pub read-frame : (s : List ℕ) → Fixes (λ (r : Read). readPaper r ≡ readPaper (readFrame s))
   pub read-lengths : (s old : List ℕ) → Fixes (λ (o : Listed × Lent). Lists s old (o .0) (o .1))
   pub write-data : (stamp n e : ℕ) (p old : List ℕ)

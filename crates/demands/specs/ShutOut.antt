@@ -1,6 +1,6 @@
 -- "Versions to be shut out" (document 01, "What the promises have to say"): no function that meets its promise is one of them. Assumes
 -- nothing.
-use Prim.Native.Nat.{ℕ}
+use Prim.Native.Nat.{ℕ, _+_}
 use mathlib.Core.Path.{_≡_}
 use mathlib.Core.Bool.{true}
 use mathlib.Core.List.{List}
@@ -9,6 +9,7 @@ use Rattle.frame.specs.declared.Read.{Read}
 use Rattle.frame.specs.declared.Written.{Written}
 use Rattle.frame.specs.Paper.{readPaper, writtenPaper}
 use Rattle.frame.specs.Reading.{readFrame}
+use Rattle.frame.specs.Sizes.{dataHead}
 use Rattle.frame.specs.Writing.{writeData}
 use Rattle.reception.specs.declared.Report.{Report}
 use Rattle.reception.specs.declared.Reported.{Reported}
@@ -52,6 +53,9 @@ pub record ShutOut : Type 0 where
       → ((stamp n e l room : ℕ) → writtenPaper (f stamp n e l room) .accepted ≡ 0) → ⊥
   -- "one with a constant reply"
   pub replies-the-same : (f : List ℕ → Read) → Reads f → ((s t : List ℕ) → f s ≡ f t) → ⊥
+  -- "We counted them as payload" (request 2): one that counts every octet behind the checks of a data PDU
+  pub counts-extensions : (f : List ℕ → Read) → Reads f
+      → ((s : List ℕ) → readPaper (f s) .kind ≡ 2 → dataHead + readPaper (f s) .payload ≡ length s) → ⊥
   -- "a join that writes nothing"
   pub joins-nothing : (f : Kept → Kept → JoinOutcome) → JoinsTwo f → ((a b : Kept) → f a b .kept ≡ a) → ⊥
   -- "a record that takes its first frame and ignores the rest"

@@ -9,7 +9,8 @@ use Rattle.checks.specs.Check.{divide, lowDigits, bitsOf, check}
 use Rattle.frame.specs.declared.DataPdu.{DataPdu}
 use Rattle.frame.specs.declared.ClosingPdu.{ClosingPdu}
 use Rattle.frame.specs.declared.Read.the-variants.{Closing, Data, ClosingWithLengths}
-use Rattle.frame.specs.Layout.{payloadOf, lengthAt, sumLengths}
+use Rattle.frame.specs.Layout.{lengthAt, sumLengths}
+use Rattle.frame.specs.Payloads.{startsV4, startsV6, payloadKept}
 use Rattle.frame.specs.Counts.{dataWrong, closingWrong, lengthsWrong}
 use Rattle.frame.specs.Reading.{refuseCheck, readFrame, readHeaded, readBody}
 use Rattle.frame.specs.Writing.{dataFrame, closingFrame, lengthsFrame, packed}
@@ -31,7 +32,7 @@ unfolding octets divide lowDigits bitsOf check dataFrame
 A-written = refl
 
 A-read : readFrame A ≡ Data (first 0)
-unfolding be divide lowDigits bitsOf check readFrame readHeaded readBody dataWrong payloadOf
+unfolding be divide lowDigits bitsOf check readFrame readHeaded readBody dataWrong payloadKept startsV4 startsV6
 A-read = refl
 
 abbrev pub B : List ℕ
@@ -42,7 +43,7 @@ unfolding octets divide lowDigits bitsOf check dataFrame
 B-written = refl
 
 pub B-read : readFrame B ≡ Data (first 1)
-unfolding be divide lowDigits bitsOf check readFrame readHeaded readBody dataWrong payloadOf
+unfolding be divide lowDigits bitsOf check readFrame readHeaded readBody dataWrong payloadKept startsV4 startsV6
 B-read = refl
 
 abbrev pub C : List ℕ

@@ -1,12 +1,13 @@
 pub mod Accepted
 pub mod BenchExamples
 pub mod ChecksTold
+pub mod ExtensionDropped
 pub mod Fitting
 pub mod LengthsBack
 pub mod NotJudged
 pub mod OnePaper
 pub mod OrderOfRefusals
-pub mod Payload
+pub mod Payloads
 pub mod ReadBack
 pub mod Said
 pub mod WhatWentIn

@@ -5,14 +5,15 @@ use mathlib.Core.List.{[], _∷_}
 use Rattle.fields.specs.Numbers.{be}
 use Rattle.checks.specs.Check.{divide, lowDigits, bitsOf, check}
 use Rattle.frame.specs.declared.Read.the-variants.{Closing, Data, ClosingWithLengths}
-use Rattle.frame.specs.Layout.{payloadOf, lengthAt, sumLengths}
+use Rattle.frame.specs.Layout.{lengthAt, sumLengths}
+use Rattle.frame.specs.Payloads.{startsV4, startsV6, payloadKept}
 use Rattle.frame.specs.Counts.{dataWrong, closingWrong, lengthsWrong}
 use Rattle.frame.specs.Reading.{readFrame, readHeaded, readBody}
 use Rattle.frame.proofs.BenchExamples.{first, after}
 
 -- example A with all spare bits set, and the header check of that
 spare-bits : readFrame (0x1F ∷ 0 ∷ 0 ∷ 0 ∷ 0 ∷ 0 ∷ 0 ∷ 0 ∷ 0 ∷ 0xA8 ∷ 0 ∷ []) ≡ Data (first 0)
-unfolding be divide lowDigits bitsOf check readFrame readHeaded readBody dataWrong payloadOf
+unfolding be divide lowDigits bitsOf check readFrame readHeaded readBody dataWrong payloadKept startsV4 startsV6
 spare-bits = refl
 
 -- example C with both padding bits set

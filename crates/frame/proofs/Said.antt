@@ -4,7 +4,7 @@ use mathlib.Core.Path.{_≡_, refl, sym, ap, _∙_}
 use mathlib.Core.List.{List}
 use mathlib.Core.Bool.{Bool, true, false, not, _||_, true≢false}
 use native.Mathlib.Omega.{arith}
-use lib.ListN.{length, getD, drop}
+use lib.ListN.{length, getD, take, drop}
 use lib.Dec.{ltb, leb, eqb}
 use borrow.Author.Tests.{ltb-false, leb-false, eqb-true, not-false}
 use Rattle.units.specs.Limits.{mostPayload, mostInSequence, lastStamp}
@@ -17,7 +17,7 @@ use Rattle.frame.specs.Layout.{numberOf, elapsedOf, payloadOf, payloadLe
 use Rattle.frame.specs.Counts.{dataWrong, closingWrong, lengthsWrong}
 use Rattle.frame.specs.Reading.{readFrame, lengthWrong}
 use Rattle.frame.proofs.Accepted.{read-data, read-closing, read-with-lengths}
-use Rattle.frame.proofs.Payload.{from-twelfth, payload-length}
+use Rattle.frame.proofs.Payloads.{payload-within, payload-length}
 
 -- counts that are possible, of a data PDU
 pub data-right : (n e : ℕ) → dataWrong n e ≡ false → (n < mostInSequence) × (e ≤ mostPayload * n)
@@ -52,33 +52,32 @@ pub record DataSaid (s : List ℕ) (d : DataPdu) : Type 0 where
   pub stamp : d .stamp ≤ lastStamp
   pub number : d .number .0 < mostInSequence
   pub elapsed : d .elapsed .0 ≤ mostPayload * d .number .0
-  pub size : length s ≡ 11 + d .length .0
+  pub least : 11 + d .length .0 ≤ length s
+  pub most : length s ≤ 15 + d .length .0
   pub short : d .length .0 ≤ mostPayload
-
--- the length that is recorded is that of the payload which is handed on, today all of the frame from its twelfth octet on
-pub record HandedOn (s : List ℕ) (d : DataPdu) : Type 0 where
-  pub there : 11 ≤ length s
-  pub payload : payloadOf s ≡ drop 11 s
-  pub recorded : d .length .0 ≡ length (payloadOf s)
-
-pub handed-on : (s : List ℕ) (d : DataPdu) → readFrame s ≡ Data d → HandedOn s d
-handed-on s d e =
-    let r = read-data s d e in
-    record { there = rw (r .1) at (r .0 .long); payload = from-twelfth s; recorded = ap (λ (x : DataPdu). x .length .0) (sym (r .2)) }
 
 data-said-of : (s : List ℕ) → readFrame s ≡ Data (dataOf s) → DataSaid s (dataOf s)
 data-said-of s e =
     let r = read-data s (dataOf s) e in
-    let l : 11 ≤ length s = rw (r .1) at (r .0 .long) in
+    let l = payload-within s (rw (r .1) at (r .0 .long)) in
     let z : payloadLength s ≤ mostPayload = ltb-false mostPayload (payloadLength s) (rw (r .1) at (r .0 .sized)) in
     let w : dataWrong (numberOf s) (elapsedOf s) ≡ false = rw (r .1) at (r .0 .counted) in
     let n = data-right (numberOf s) (elapsedOf s) w in
-    record { fields = refl; stamp = r .0 .stamped; number = n .0; elapsed = n .1; size = omega (arith, payload-length s); short = z }
+    record { fields = refl; stamp = r .0 .stamped; number = n .0; elapsed = n .1; least = l .0; most = l .1; short = z }
 
 pub data-said : (s : List ℕ) (d : DataPdu) → readFrame s ≡ Data d → DataSaid s d
 data-said s d e =
     let q = read-data s d e .2 in
     rw q at (data-said-of s (e ∙ ap Data (sym q)))
+
+-- the part of the frame that code hands on is the payload, and its length is the one that was read
+pub handed-on : (s : List ℕ) (d : DataPdu) → DataSaid s d → take (11 + d .length .0 - 11) (drop 11 s) ≡ payloadOf s
+handed-on s d h =
+    let e : 11 + d .length .0 - 11 ≡ payloadLength s = omega (arith, ap (λ (x : DataPdu). x .length .0) (h .fields)) in
+    rw e
+
+pub handed-length : (s : List ℕ) (d : DataPdu) → DataSaid s d → d .length .0 ≡ length (take (11 + d .length .0 - 11) (drop 11 s))
+handed-length s d h = ap (λ (x : DataPdu). x .length .0) (h .fields) ∙ sym (payload-length s) ∙ ap length (sym (handed-on s d h))
 
 -- an accepted closing PDU, of Type 0 or 3
 pub record ClosingSaid (s : List ℕ) (c : ClosingPdu) : Type 0 where

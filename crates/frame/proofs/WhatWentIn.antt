@@ -17,11 +17,13 @@ use Rattle.frame.specs.declared.ClosingPdu.{ClosingPdu}
 use Rattle.frame.specs.declared.Read.the-variants.{Closing, Data, ClosingWithLengths}
 use Rattle.frame.specs.declared.Written.the-variants.{Done}
 use Rattle.frame.specs.Layout.{filled, lengthsOf}
+use Rattle.frame.specs.Payloads.{payloadKept, AllPayload}
 use Rattle.frame.specs.Counts.{dataWrong, givenWrong, listWrong}
 use Rattle.frame.specs.Reading.{readFrame}
 use Rattle.frame.specs.Writing.{dataFrame, closingFrame, lengthsFrame, refuseWrite, writeData, writeClosing, writeLengths, after}
 use Rattle.frame.proofs.Fitting.{given-fits, length-packed}
 use Rattle.frame.proofs.LengthsBack.{lengths-back, list-back}
+use Rattle.frame.proofs.Payloads.{payload-most}
 use Rattle.frame.proofs.ReadBack.{data-back, closing-back}
 
 -- how many octets each frame has
@@ -68,11 +70,16 @@ module _ (stamp n e room k : ℕ) (p old : List ℕ) (h : writeData stamp n e (l
       record { stamped = ltb-false lastStamp stamp (p1 .0); short = ltb-false mostPayload (length p) (p2 .0); counted = p3 .0; size = done (p4 .1) }
 
   pub data-went-in : readFrame (take k (after (Done k) (dataFrame stamp n e p) old))
-      ≡ Data (record { stamp = stamp; number = record { 0 = n }; elapsed = record { 0 = e }; length = record { 0 = length p } })
+      ≡ Data (record { stamp = stamp; number = record { 0 = n }; elapsed = record { 0 = e }; length = record { 0 = payloadKept p } })
   data-went-in =
       let a = data-accepted in
       ap readFrame (written-in-front (dataFrame stamp n e p) old k (data-length stamp n e p ∙ a .size))
-      ∙ data-back stamp n e p (a .stamped) (a .short) (a .counted)
+      ∙ data-back stamp n e p (a .stamped) (let m = payload-most p in let z = a .short in omega (arith, m, z)) (a .counted)
+
+  -- where the rule drops nothing from the payload, its length too
+  pub data-went-in-whole : AllPayload p → readFrame (take k (after (Done k) (dataFrame stamp n e p) old))
+      ≡ Data (record { stamp = stamp; number = record { 0 = n }; elapsed = record { 0 = e }; length = record { 0 = length p } })
+  data-went-in-whole all = data-went-in ∙ rw all
 
 -- Type 0
 module _ (c : ClosingPdu) (room k : ℕ) (old : List ℕ) (h : writeClosing c room ≡ Done k) where

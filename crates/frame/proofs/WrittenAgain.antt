@@ -16,7 +16,7 @@ use Rattle.checks.specs.Check.{headerCheck, payloadCheck}
 use Rattle.frame.specs.declared.DataPdu.{DataPdu}
 use Rattle.frame.specs.declared.ClosingPdu.{ClosingPdu}
 use Rattle.frame.specs.declared.Read.the-variants.{Closing, Data, ClosingWithLengths}
-use Rattle.frame.specs.Layout.{typeOf, stampOf, numberOf, elapsedOf, closingOf, lengthAt, lengthsOf, filled}
+use Rattle.frame.specs.Layout.{typeOf, stampOf, numberOf, elapsedOf, payloadLength, payloadOf, closingOf, lengthAt, lengthsOf, filled}
 use Rattle.frame.specs.Reading.{readFrame, headerWrong, payloadWrong}
 use Rattle.frame.specs.Writing.{controlPart, closingControl, sealed, dataFrame, closingFrame, lengthsFrame, packed}
 use Rattle.frame.proofs.Accepted.{read-data, read-closing, read-with-lengths}
@@ -49,16 +49,19 @@ module _ (s : List ℕ) (p : Plain s) where
       let v : headerCheck (take n s) * 1024 + payloadCheck (drop (n + 2) s) ≡ be 2 s n = omega (arith, be-two s n, p .octet n, p .octet (n + 1)) in
       rw (v, octets-be 2 n s (p .octet) l, take-then s n 2) (take-append-drop (n + 2) s)
 
--- Type 1
-pub data-again : (s : List ℕ) (d : DataPdu) → Plain s → readFrame s ≡ Data d → dataFrame (d .stamp) (d .number .0) (d .elapsed .0) (drop 11 s) ≡ s
+-- Type 1 without extension
+pub data-again : (s : List ℕ) (d : DataPdu) → Plain s → length s ≡ 11 + d .length .0 → readFrame s ≡ Data d
+    → dataFrame (d .stamp) (d .number .0) (d .elapsed .0) (payloadOf s) ≡ s
 unfolding dataFrame
-data-again s d p e =
+data-again s d p z e =
     let r = read-data s d e in
     let l : 11 ≤ length s = rw (r .1) at (r .0 .long) in
     let h : headerWrong 9 s ≡ false = rw (r .1) at (r .0 .headed) in
     let c : payloadWrong 9 s ≡ false = rw (r .1) at (r .0 .checked) in
     let k : controlPart 1 (stampOf s) (numberOf s) (elapsedOf s) ≡ take 9 s = rw (r .1) at (control-again s p (omega arith)) in
-    rw (← (r .2)) (ap (λ (x : List ℕ). sealed x (drop 11 s)) k ∙ sealed-again s p 9 l h c)
+    let n : payloadLength s ≡ d .length .0 = ap (λ (x : DataPdu). x .length .0) (r .2) in
+    let a : payloadOf s ≡ drop 11 s = take-all (payloadLength s) (drop 11 s) (simp length-drop (omega arith)) in
+    rw a (rw (← (r .2)) (ap (λ (x : List ℕ). sealed x (drop 11 s)) k ∙ sealed-again s p 9 l h c))
 
 -- Types 0 and 3
 module _ (s : List ℕ) (p : Plain s) where

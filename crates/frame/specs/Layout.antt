@@ -2,10 +2,11 @@
 -- Assumes nothing.
 use Prim.Native.Nat.{ℕ, zero, suc, _+_, _*_, _/_, _%_}
 use mathlib.Core.List.{List, [], _∷_}
-use lib.ListN.{length, getD, drop}
+use lib.ListN.{getD, take, drop}
 use Rattle.fields.specs.Numbers.{be}
 use Rattle.frame.specs.declared.DataPdu.{DataPdu}
 use Rattle.frame.specs.declared.ClosingPdu.{ClosingPdu}
+use Rattle.frame.specs.Payloads.{payloadKept}
 use Rattle.frame.specs.Sizes.{shortControl, longControl, dataHead, closingSize, lengthsHead}
 
 -- "The first octet holds the type in bits 7 to 4", PDU Type (5.5.3.1)
@@ -56,13 +57,13 @@ payloadCheckIn n s = be 2 s n % 1024
 abbrev pub payloadPart : ℕ → List ℕ → List ℕ
 payloadPart n s = drop (n + 2) s
 
--- "In Type 1 everything after the checks is payload, from the frame's twelfth octet to its end"
-unfoldable pub payloadOf : List ℕ → List ℕ
-payloadOf s = payloadPart shortControl s
-
--- the length that is recorded is that of the payload which is handed on
+-- the length of a Type 1 payload, by the rule of request 2: "the 0 to 4 octets after it are dropped", or "all of it is payload"
 abbrev pub payloadLength : List ℕ → ℕ
-payloadLength s = length (payloadOf s)
+payloadLength s = payloadKept (payloadPart shortControl s)
+
+-- the payload, which is handed on: so many octets "from the frame's twelfth octet"
+abbrev pub payloadOf : List ℕ → List ℕ
+payloadOf s = take (payloadLength s) (payloadPart shortControl s)
 
 -- the upper 12 bits of two octets, or the lower
 abbrev pub upperOrLower : ℕ → ℕ → ℕ

@@ -2,6 +2,7 @@ pub mod Counts
 pub mod Layout
 pub mod Listing
 pub mod Paper
+pub mod Payloads
 pub mod Reading
 pub mod Sizes
 pub mod Writing

@@ -187,7 +187,7 @@ pub fn hear_next(
             bearer,
             period,
             d,
-            &frame[DATA_HEAD..],
+            &frame[DATA_HEAD..DATA_HEAD + d.length.0 as usize],
         ),
         Read::Closing(c) => next_closing(h, span, marks, elapsed, sizes, bearer, period, c),
         Read::ClosingWithLengths(c) => next_closing(

@@ -148,7 +148,7 @@ pub fn hear(
             bearer,
             period,
             d,
-            &frame[DATA_HEAD..],
+            &frame[DATA_HEAD..DATA_HEAD + d.length.0 as usize],
         ),
         Read::Closing(c) => hear_closing(h, marks, elapsed, sizes, bearer, period, c),
         Read::ClosingWithLengths(c) => hear_closing(h, marks, elapsed, sizes, bearer, period, c),

@@ -1,6 +1,8 @@
-// Frames: reading, lengths, and writing from given fields.
+// Frames: reading, lengths, what is kept of a payload, and writing from given fields.
+ghost use mathlib.Core.Path.{_≡_};
 ghost use lib.ListN.{length};
 ghost use Rattle.frame.specs.Paper.{readPaper};
+ghost use Rattle.frame.specs.Payloads.{payloadKept};
 ghost use Rattle.frame.specs.Reading.{readFrame};
 ghost use Rattle.frame.specs.Writing.{dataFrame, closingFrame, lengthsFrame, writeData, writeClosing, writeLengths};
 ghost use Rattle.numbers_frames.specs.Reading.{ReadOut, ListsInOne};
@@ -21,6 +23,14 @@ pub extern "C" fn quimdoral_read_lengths(frame: &[u8], lengths: &mut [u16]) -> u
     ensures { λ r. ⌜ ListsInOne (now (frame .entry)) (now (lengths .entry)) r (now (lengths .exit)) ⌝ }
 {
     numbers_frames::lengths_in_one(frame, lengths)
+}
+
+// How many octets of a payload a reader takes, so that whoever sends can see it before: up to four behind an IP packet are dropped.
+#[no_mangle]
+pub extern "C" fn quimdoral_payload_kept(payload: &[u8]) -> u64
+    ensures { λ r. ⌜ r ≡ payloadKept (now (payload .entry)) ⌝ }
+{
+    payloads::payload_kept(payload)
 }
 
 // Writes a data PDU (Type 1).

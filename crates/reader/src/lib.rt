@@ -17,6 +17,7 @@ use parts::data_of;
 use parts::header_compared;
 use parts::least_of;
 use parts::payload_compared;
+use payloads::payload_kept;
 use units::Refusal;
 use units::limits::LAST_STAMP;
 use units::limits::MOST_PAYLOAD;
@@ -70,24 +71,25 @@ fn read_closing(frame: &[u8]) -> Read
     Read::Closing(c)
 }
 
-// Type 1. The payload is the part from the twelfth octet to the end.
+// Type 1. The check is that of the whole part from the twelfth octet to the end; of that part the payload may be less.
 fn read_data(frame: &[u8]) -> Read
     requires { ⌜ dataHead ≤ length (now frame) ⌝ }
     ensures { λ r. ⌜ r ≡ readBody 1 (now (frame .entry)) ⌝ }
 {
-    let payload = &frame[DATA_HEAD..];
-    if MOST_PAYLOAD < payload.len() as u64 {
+    let part = &frame[DATA_HEAD..];
+    let kept = payload_kept(part);
+    if MOST_PAYLOAD < kept {
         return Read::Refused(Refusal {
             number: SIZE_WRONG,
             found: 0,
             worked_out: 0,
         });
     }
-    let t = payload_compared(frame, SHORT_CONTROL, payload);
+    let t = payload_compared(frame, SHORT_CONTROL, part);
     if t.worked_out != t.found {
         return check_refused(PAYLOAD_CHECK_WRONG, t);
     }
-    let d = data_of(frame, payload);
+    let d = data_of(frame, kept);
     if counts::data_wrong(d.number, d.elapsed) {
         return Read::Refused(Refusal {
             number: COUNTS_IMPOSSIBLE,

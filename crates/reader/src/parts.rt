@@ -12,7 +12,7 @@ ghost use mathlib.Core.Path.{_≡_};
 ghost use Prim.Native.Nat.{_+_, _≤_, _<_};
 ghost use lib.ListN.{length, take, drop};
 ghost use Rattle.checks.specs.Check.{headerCheck, payloadCheck};
-ghost use Rattle.frame.specs.Layout.{control, least, headerCheckIn, payloadCheckIn, payloadPart, payloadOf, dataOf, closingOf};
+ghost use Rattle.frame.specs.Layout.{control, least, headerCheckIn, payloadCheckIn, payloadPart, payloadLength, dataOf, closingOf};
 ghost use Rattle.frame.specs.Sizes.{dataHead, longControl};
 
 pub fn control_of(kind: u8) -> usize
@@ -65,15 +65,15 @@ pub fn payload_compared(frame: &[u8], n: usize, part: &[u8]) -> Compared
 }
 
 // The length that is recorded is that of the payload which is handed on.
-pub fn data_of(frame: &[u8], payload: &[u8]) -> DataPdu
-    requires { ⌜ (dataHead ≤ length (now frame)) × (now payload ≡ payloadOf (now frame)) ⌝ }
+pub fn data_of(frame: &[u8], kept: u64) -> DataPdu
+    requires { ⌜ (dataHead ≤ length (now frame)) × (kept ≡ payloadLength (now frame)) ⌝ }
     ensures { λ r. ⌜ r ≡ dataOf (now (frame .entry)) ⌝ }
 {
     DataPdu {
         stamp: fields::field(frame, 1, 2) as u32,
         number: Packets(fields::field(frame, 3, 2) as u32),
         elapsed: Octets(fields::field(frame, 5, 4)),
-        length: Octets(payload.len() as u64),
+        length: Octets(kept),
     }
 }
 

@@ -9,7 +9,7 @@ use writer::write_closing;
 use writer::write_closing_with_lengths;
 use writer::write_data;
 ghost use mathlib.Core.Path.{_≡_};
-ghost use Prim.Native.Nat.{_≤_};
+ghost use Prim.Native.Nat.{_+_, _≤_};
 ghost use lib.ListN.{length};
 ghost use Rattle.io.specs.Counts.{Counts};
 ghost use Rattle.frame.specs.Paper.{listedPaper, writtenPaper};
@@ -60,12 +60,12 @@ fn write_lengths_again(c: ClosingPdu, frame: &[u8], lengths: &mut [u16], room: &
     size_of(written)
 }
 
-// A data PDU, with the payload that stands in the frame.
+// A data PDU, with the payload that stands in the frame: what is dropped behind an IP packet is not written again.
 fn write_data_again(d: DataPdu, frame: &[u8], room: &mut [u8]) -> usize
-    requires { ⌜ dataHead ≤ length (now frame) ⌝ }
+    requires { ⌜ dataHead + d .length .0 ≤ length (now frame) ⌝ }
     ensures { λ r. ⌜ Counts r (now (room .exit)) ⌝ }
 {
-    let payload = &frame[DATA_HEAD..];
+    let payload = &frame[DATA_HEAD..DATA_HEAD + d.length.0 as usize];
     let written = write_data(d.stamp, d.number, d.elapsed, payload, room);
     size_of(written)
 }

@@ -1,5 +1,5 @@
 -- Demand 2 through the sender: a frame that a call was accepted for is read back with exactly the sender's stamp and counts, the
--- payload's length, and the totals. Assumes nothing.
+-- length of what the rule keeps of the payload, and the totals. Assumes nothing.
 use Prim.Native.Nat.{ℕ}
 use mathlib.Core.Path.{_≡_, refl, sym, ap, _∙_}
 use mathlib.Core.List.{List}
@@ -8,6 +8,7 @@ use Rattle.frame.specs.declared.Read.the-variants.{Closing, Data, ClosingWithLe
 use Rattle.frame.specs.declared.Written.{Written}
 use Rattle.frame.specs.declared.Written.the-variants.{Done, Refused}
 use Rattle.frame.specs.Layout.{lengthsOf}
+use Rattle.frame.specs.Payloads.{payloadKept, AllPayload}
 use Rattle.frame.specs.Reading.{readFrame}
 use Rattle.frame.specs.Writing.{dataFrame, closingFrame, lengthsFrame, after, writeLengths}
 use Rattle.frame.proofs.WhatWentIn.{data-went-in, closing-went-in, lengths-went-in}
@@ -22,12 +23,18 @@ use Rattle.sender.proofs.Written.{data-written, closing-written, length
 module _ (s : Sender) (room k : ℕ) (old : List ℕ) where
   pub data-sent : (p : List ℕ) → dataCall s (length p) room .answer ≡ Done k
       → readFrame (take k (after (Done k) (dataFrame (s .stamp) (s .number .0) (s .elapsed .0) p) old))
-      ≡ Data (record { stamp = s .stamp; number = record { 0 = s .number .0 }; elapsed = record { 0 = s .elapsed .0 }; length = record { 0 = length p } })
+      ≡ Data (record { stamp = s .stamp; number = record { 0 = s .number .0 }; elapsed = record { 0 = s .elapsed .0 }; length = record { 0 = payloadKept p } })
   data-sent p e =
       let q = data-goes s (length p) room k e in
       let g = q .0 in
       data-went-in (s .stamp) (s .number .0) (s .elapsed .0) room k p old
       (data-written s (undamaged s (g .whole)) (length p) room (g .number) (g .short) (g .fits) ∙ ap Done (q .1))
+
+  -- where the rule drops nothing from the payload, with its own length
+  pub data-sent-whole : (p : List ℕ) → AllPayload p → dataCall s (length p) room .answer ≡ Done k
+      → readFrame (take k (after (Done k) (dataFrame (s .stamp) (s .number .0) (s .elapsed .0) p) old))
+      ≡ Data (record { stamp = s .stamp; number = record { 0 = s .number .0 }; elapsed = record { 0 = s .elapsed .0 }; length = record { 0 = length p } })
+  data-sent-whole p all e = data-sent p e ∙ rw all
 
   pub closing-sent : closeCall s room .answer ≡ Done k → readFrame (take k (after (Done k) (closingFrame (closingBy s)) old)) ≡ Closing (closingBy s)
   closing-sent e =

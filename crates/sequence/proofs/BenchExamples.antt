@@ -1,5 +1,5 @@
 -- Bench examples G and H as frames heard: an empty record of stamp 0 hears B and then one data PDU more, in every capacity that has the
--- places, of every bearer and period, and with every payload. Assumes nothing.
+-- places, of every bearer and period, and with every payload of which the rule keeps at most 4,095 octets. Assumes nothing.
 use Prim.Native.Nat.{ℕ, _≤_, _<_}
 use mathlib.Core.Path.{_≡_, refl, sym, ap, _∙_, subst}
 use mathlib.Core.Bool.{true, false}
@@ -11,6 +11,7 @@ use Rattle.units.specs.Refusals.{refusing, contradiction}
 use Rattle.frame.specs.declared.DataPdu.{DataPdu}
 use Rattle.frame.specs.declared.Read.the-variants.{Data}
 use Rattle.frame.specs.Counts.{dataWrong}
+use Rattle.frame.specs.Payloads.{payloadKept}
 use Rattle.frame.specs.Reading.{readFrame}
 use Rattle.frame.specs.Writing.{dataFrame}
 use Rattle.frame.proofs.BenchExamples.{B, B-read, first}
@@ -29,7 +30,7 @@ use Rattle.reception.specs.Several.{answersTo}
 
 -- a data PDU of stamp 0
 abbrev pduOf : ℕ → ℕ → List ℕ → DataPdu
-pduOf n e p = record { stamp = 0; number = record { 0 = n }; elapsed = record { 0 = e }; length = record { 0 = length p } }
+pduOf n e p = record { stamp = 0; number = record { 0 = n }; elapsed = record { 0 = e }; length = record { 0 = payloadKept p } }
 
 module _ (bearer period c : ℕ) (most : c ≤ mostCapacity) (least : 3 ≤ c) where
   abbrev empty : Kept
@@ -70,7 +71,7 @@ module _ (bearer period c : ℕ) (most : c ≤ mostCapacity) (least : 3 ≤ c) w
   unfolding answersTo
   two-answers f = ap (λ (o : Outcome). o .answer ∷ hearFrame (o .kept) bearer period f .answer ∷ []) B-heard
 
-  module _ (p : List ℕ) (small : length p ≤ mostPayload) where
+  module _ (p : List ℕ) (small : payloadKept p ≤ mostPayload) where
     -- packet n with e octets before it, by whether it contradicts what is held
     module _ (n e : ℕ) (right : dataWrong n e ≡ false) (below : n < c) where
       said : readFrame (dataFrame 0 n e p) ≡ Data (pduOf n e p)
@@ -79,7 +80,7 @@ module _ (bearer period c : ℕ) (most : c ≤ mostCapacity) (least : 3 ≤ c) w
       there : n < length (heardB .marks)
       there = rw (length-set (empty .marks) 0 1, places) below
 
-      accepted : packetContradicts (afterB c) n e (length p) ≡ false → afterwards (dataFrame 0 n e p) ≡ Done ∷ Done ∷ []
+      accepted : packetContradicts (afterB c) n e (payloadKept p) ≡ false → afterwards (dataFrame 0 n e p) ≡ Done ∷ Done ∷ []
       accepted h =
           two-answers (dataFrame 0 n e p)
           ∙ ap (λ (o : Outcome). Done ∷ o .answer ∷ [])
@@ -87,33 +88,33 @@ module _ (bearer period c : ℕ) (most : c ≤ mostCapacity) (least : 3 ≤ c) w
           (record {
             own = key-owned (openHead bearer period 0);
             below = there;
-            agrees = subst (λ (r : Held). packetContradicts r n e (length p) ≡ false) (sym held-then) h;
+            agrees = subst (λ (r : Held). packetContradicts r n e (payloadKept p) ≡ false) (sym held-then) h;
           }))
 
-      refused : packetContradicts (afterB c) n e (length p) ≡ true
+      refused : packetContradicts (afterB c) n e (payloadKept p) ≡ true
           → afterwards (dataFrame 0 n e p) ≡ Done ∷ Refused (refusing contradiction) ∷ []
       refused h =
           two-answers (dataFrame 0 n e p)
           ∙ ap (λ (o : Outcome). Done ∷ o .answer ∷ [])
           (contradicting-packet heardB bearer period (dataFrame 0 n e p) (pduOf n e p) said sound-then (key-owned (openHead bearer period 0)) there
-          (subst (λ (r : Held). packetContradicts r n e (length p) ≡ true) (sym held-then) h))
+          (subst (λ (r : Held). packetContradicts r n e (payloadKept p) ≡ true) (sym held-then) h))
 
     -- G: number 1 at elapsed 2 is refused with 11
     pub G-refused : answersTo (emptyKept bearer period 0 c) bearer period (B ∷ dataFrame 0 1 2 p ∷ []) ≡ Done ∷ Refused (refusing 11) ∷ []
     unfolding dataWrong
-    G-refused = refused 1 2 refl (omega arith) (G-contradicts c (length p) least most)
+    G-refused = refused 1 2 refl (omega arith) (G-contradicts c (payloadKept p) least most)
 
     -- number 2 at elapsed 1 is accepted
     pub G-accepted : answersTo (emptyKept bearer period 0 c) bearer period (B ∷ dataFrame 0 2 1 p ∷ []) ≡ Done ∷ Done ∷ []
     unfolding dataWrong
-    G-accepted = accepted 2 1 refl (omega arith) (G-agrees c (length p) least small)
+    G-accepted = accepted 2 1 refl (omega arith) (G-agrees c (payloadKept p) least small)
 
     -- H: number 2 at elapsed 4,096 is accepted
     pub H-accepted : answersTo (emptyKept bearer period 0 c) bearer period (B ∷ dataFrame 0 2 4096 p ∷ []) ≡ Done ∷ Done ∷ []
     unfolding dataWrong
-    H-accepted = accepted 2 4096 refl (omega arith) (H-agrees c (length p) least small)
+    H-accepted = accepted 2 4096 refl (omega arith) (H-agrees c (payloadKept p) least small)
 
     -- at elapsed 4,097 it is refused with 11
     pub H-refused : answersTo (emptyKept bearer period 0 c) bearer period (B ∷ dataFrame 0 2 4097 p ∷ []) ≡ Done ∷ Refused (refusing 11) ∷ []
     unfolding dataWrong
-    H-refused = refused 2 4097 refl (omega arith) (H-contradicts c (length p) least most)
+    H-refused = refused 2 4097 refl (omega arith) (H-contradicts c (payloadKept p) least most)

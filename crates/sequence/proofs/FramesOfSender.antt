@@ -27,17 +27,18 @@ use Rattle.sender.proofs.Undamaged.{undamaged, few-octets}
 use Rattle.reception.specs.declared.Taken.the-variants.{Done as Accepted}
 use Rattle.reception.specs.Hearing.{emptyKept}
 use Rattle.reception.specs.Several.{hearAll, answersTo}
-use Rattle.sequence.specs.Pieces.{Piece, frameOf, PieceOf, PiecesOf, lengthsOf, SameFrames}
+use Rattle.sequence.specs.Pieces.{Piece, frameOf, PieceOf, PiecesOf, AllKept, lengthsOf, SameFrames}
 use Rattle.sequence.specs.Pieces.Piece.{DataOf, PlainClosing, ListedClosing}
 use Rattle.sequence.specs.Pieces.PieceOf.{with-lengths}
 use Rattle.sequence.proofs.PiecesRead.{Carried, count-is, octets-are}
 use Rattle.sequence.proofs.NeverRefused.{never-refused}
 use Rattle.sequence.proofs.OnlyWhichFrames.{only-which-frames}
 
--- a sender whose opening of a sequence was accepted, and payloads for which it has room
+-- a sender whose opening of a sequence was accepted, and payloads for which it has room and of which a reader keeps all
 pub record Opened (s : Sender) (stamp : ℕ) (ps : List (List ℕ)) : Type 0 where
   pub accepted : openCall s stamp .answer ≡ TurnDone
   pub short : Short ps
+  pub kept : AllKept ps
   pub few : countOf ps ≤ mostInSequence
   pub totals : s .packets .0 + countOf ps ≤ mostPeriodPackets
 
@@ -74,7 +75,7 @@ module _ (s : Sender) (stamp : ℕ) (ps : List (List ℕ)) (o : Opened s stamp p
   pub opened-carried : Carried stamp (s .packets .0) (s .octets .0) ps
   opened-carried =
       let b = told in
-      record { stamped = b .stamped; short = o .short; few = o .few; totals = o .totals; possible = few-octets s (undamaged s (b .whole)) }
+      record { stamped = b .stamped; short = o .short; kept = o .kept; few = o .few; totals = o .totals; possible = few-octets s (undamaged s (b .whole)) }
 
   -- the frame of its data call number k
   pub data-frame-sent : (k : ℕ) → getD (framesBy (openCall s stamp .sender) ps) k [] ≡ frameOf stamp (s .packets .0) (s .octets .0) ps (DataOf k)

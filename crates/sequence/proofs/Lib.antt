@@ -1,4 +1,5 @@
 pub mod BenchExamples
+pub mod DroppedContradicts
 pub mod FramesOfSender
 pub mod NeverRefused
 pub mod OnlyWhichFrames

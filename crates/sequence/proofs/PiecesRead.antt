@@ -12,24 +12,28 @@ use Rattle.units.specs.Limits.{mostPayload, mostInSequence, mostPeriodPackets, 
 use Rattle.frame.specs.declared.DataPdu.{DataPdu}
 use Rattle.frame.specs.declared.Read.the-variants.{Closing, Data, ClosingWithLengths}
 use Rattle.frame.specs.Counts.{dataWrong, closingWrong, sumOf, listWrong}
+use Rattle.frame.specs.Payloads.{AllPayload}
 use Rattle.frame.specs.Reading.{readFrame}
 use Rattle.frame.specs.Writing.{dataFrame}
 use Rattle.frame.proofs.Fitting.{Fits}
 use Rattle.frame.proofs.LengthsBack.{lengths-back}
-use Rattle.frame.proofs.ReadBack.{data-back, closing-back}
+use Rattle.frame.proofs.ReadBack.{data-back-whole, closing-back}
 use Rattle.sender.specs.Sequence.{dataFrames, countOf, octetsOf, closingAfter}
 use Rattle.sender.proofs.FramesOfSequence.{Short}
 use Rattle.sender.proofs.FramesOfSequence.Short.{none, more}
 use Rattle.reception.specs.Sendings.{Sending}
 use Rattle.reception.proofs.Points.{all-short}
 use Rattle.reception.proofs.SumsBefore.{before, before-start, before-end, climb}
-use Rattle.sequence.specs.Pieces.{frameOf, lengthsOf}
+use Rattle.sequence.specs.Pieces.{frameOf, AllKept, lengthsOf}
+use Rattle.sequence.specs.Pieces.AllKept.{none as none-kept, more as more-kept}
 use Rattle.sequence.specs.Pieces.Piece.{DataOf, PlainClosing, ListedClosing}
 
--- a sequence that the sender carries: a stamp and payloads within the limits, and totals of the period that are possible
+-- a sequence that the sender carries: a stamp and payloads within the limits, payloads of which a reader keeps all, and totals of the
+-- period that are possible
 pub record Carried (stamp packets octets : ℕ) (ps : List (List ℕ)) : Type 0 where
   pub stamped : stamp ≤ lastStamp
   pub short : Short ps
+  pub kept : AllKept ps
   pub few : countOf ps ≤ mostInSequence
   pub totals : packets + countOf ps ≤ mostPeriodPackets
   pub possible : octets ≤ mostPayload * packets
@@ -52,6 +56,11 @@ short-at : {ps : List (List ℕ)} → Short ps → (k : ℕ) → k < length (len
 short-at none k lt = absurd (not-suc-le-zero lt)
 short-at (more h w) zero lt = h
 short-at (more h w) (suc k) lt = short-at w k (omega arith)
+
+kept-at : {ps : List (List ℕ)} → AllKept ps → (k : ℕ) → k < length ps → AllPayload (getD ps k [])
+kept-at none-kept k lt = absurd (not-suc-le-zero lt)
+kept-at (more-kept h w) zero lt = h
+kept-at (more-kept h w) (suc k) lt = kept-at w k (omega arith)
 
 -- the lengths of its payloads are a sending
 pub carried-sending : (stamp packets octets : ℕ) (ps : List (List ℕ)) → Carried stamp packets octets ps → Sending (lengthsOf ps)
@@ -101,7 +110,7 @@ module _ (stamp packets octets : ℕ) (ps : List (List ℕ)) (c : Carried stamp 
   data-read k lt =
       let small : length (getD ps k []) ≤ mostPayload = rw (length-at ps k) at (short-at (c .short) k (rw (length-map ps length) lt)) in
       ap readFrame (data-frame-is stamp packets octets ps k lt)
-      ∙ data-back stamp k (before (lengthsOf ps) k) (getD ps k []) (c .stamped) small (data-possible k lt)
+      ∙ data-back-whole stamp k (before (lengthsOf ps) k) (getD ps k []) (c .stamped) small (data-possible k lt) (kept-at (c .kept) k lt)
       ∙ rw (length-at ps k)
 
   closing-fits : Fits (closingAfter stamp packets octets ps)

@@ -6,6 +6,7 @@ use mathlib.Core.Bool.{false}
 use mathlib.Core.List.{List, [], _∷_, map}
 use lib.ListN.{length, getD}
 use Rattle.frame.specs.Counts.{listWrong}
+use Rattle.frame.specs.Payloads.{AllPayload}
 use Rattle.frame.specs.Writing.{closingFrame, lengthsFrame}
 use Rattle.sender.specs.Sequence.{dataFrames, countOf, octetsOf, closingAfter}
 use Rattle.reception.specs.OneSequence.{Part, came, closingCame}
@@ -39,6 +40,11 @@ pub data PieceOf (payloads : List (List ℕ)) : Piece → Type 0 where
 pub data PiecesOf (payloads : List (List ℕ)) : List Piece → Type 0 where
   none : PiecesOf payloads []
   more : {x : Piece} {xs : List Piece} → PieceOf payloads x → PiecesOf payloads xs → PiecesOf payloads (x ∷ xs)
+
+-- "payloads from which this rule drops nothing" (document 02, request 2)
+pub data AllKept : List (List ℕ) → Type 0 where
+  none : AllKept []
+  more : {p : List ℕ} {ps : List (List ℕ)} → AllPayload p → AllKept ps → AllKept (p ∷ ps)
 
 -- the lengths of the payloads, as a sending
 abbrev pub lengthsOf : List (List ℕ) → List ℕ

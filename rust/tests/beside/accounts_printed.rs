@@ -4,6 +4,7 @@ use crate::checks_told::{WrongChecks, every_wrong_check};
 use crate::frames::{Reader, Refused};
 use crate::peers::Noise;
 use crate::sequences::{LONGEST, Sequence, any_length, below, next_to, one_in};
+use crate::sides_met::Sides;
 use crate::{account, generate, items};
 use quimdoral::Key;
 use std::collections::BTreeSet;
@@ -78,7 +79,7 @@ fn same(ours: &[u8], expected: &[u8], input: &str) {
 }
 
 /// Runs the program, compares with the plain one, and gives the text.
-fn printed_alike(input: &[u8], about: &str) -> String {
+pub fn printed_alike(input: &[u8], about: &str) -> String {
     let expected = plainly_printed(input);
     same(&printed(input), &expected, about);
     String::from_utf8(expected).expect("accounts are ASCII")
@@ -322,7 +323,7 @@ fn at_a_bound(noise: &mut Noise, reader: &Reader, sequence: &Sequence) -> Vec<u8
 /// A frame for a sequence: half of them good, the others wrong in one of many ways.
 fn any_frame(noise: &mut Noise, reader: &Reader, sequence: &Sequence) -> Vec<u8> {
     let stamp = sequence.key.stamp;
-    match below(noise, 22) {
+    match below(noise, 24) {
         0 | 1 => sequence.almost(noise).good(noise, reader),
         2 => sequence.near_closing(noise, reader),
         3 => at_a_bound(noise, reader, sequence),
@@ -338,6 +339,7 @@ fn any_frame(noise: &mut Noise, reader: &Reader, sequence: &Sequence) -> Vec<u8>
             generate::spoil_a_check(noise, &mut frame);
             frame
         }
+        11 => sequence.replaced(noise, reader),
         _ => sequence.good(noise, reader),
     }
 }
@@ -367,6 +369,18 @@ fn every_wrong_check_is_printed() {
     wrong.all_came();
 }
 
+/// What the good data PDUs of an input have behind their checks.
+fn sides_of(reader: &Reader, input: &[u8]) -> Sides {
+    let mut sides = Sides::default();
+    for ends in items::offsets(input).windows(2) {
+        let frame = &input[ends[0] + 4..ends[1]];
+        if input[ends[0] + 2] == 2 {
+            sides.add(frame, reader.read(frame).map(|_| ()));
+        }
+    }
+    sides
+}
+
 /// How often each refusal is in a text, and how many accounts are.
 fn tally(text: &str) -> ([usize; 12], usize) {
     let mut refused = [0; 12];
@@ -384,8 +398,11 @@ fn many_short_sequences() {
     }
     let (refused, accounts) = tally(&printed_alike(&input, "short sequences"));
     assert_eq!(accounts, 6_000);
-    // every refusal of hearing came up often enough to mean something
+    // every refusal of hearing came up often enough to mean something, and every side of the clauses about extensions
     assert!(refused[1..].iter().all(|&times| times > 100), "{refused:?}");
+    let sides = sides_of(&reader, &input);
+    sides.all_came(100, 10);
+    sides.long_ones_came(300);
 }
 
 /// Sequences that fill the record and go beyond it.

@@ -7,6 +7,7 @@
 use crate::fences::{Fenced, FencedRecord};
 use crate::frames::{Reader, Refused, refused, told};
 use crate::generate::{self, put_header_check, put_payload_check};
+use crate::payloads;
 use crate::peers::{HEADER, PAYLOAD, by_bits};
 use crate::records::Written;
 use quimdoral::{Checks, Key, ReadRefusal, Record, Refusal, frames, lent};
@@ -71,7 +72,7 @@ const CAPACITY: usize = 4;
 /// Example D as document 01 prints it; by the rule its check octets are 00 31.
 const D_AS_PRINTED: [u8; 21] = [0x30, 0, 0, 0, 1, 0, 0, 0, 1, 0, 0, 1, 0, 0, 0, 0, 1, 0x02, 0x02, 0x00, 0x10];
 
-/// Good frames of each type; of either check, one that is 0 and one that is not.
+/// Good frames of each type; of either check, one that is 0 and one that is not; and an IP packet with an extension, which is checked too.
 fn good_frames(reader: &Reader) -> Vec<Vec<u8>> {
     let mut by_the_rule = D_AS_PRINTED.to_vec();
     reader.seal(&mut by_the_rule);
@@ -82,6 +83,7 @@ fn good_frames(reader: &Reader) -> Vec<Vec<u8>> {
         generate::closing(reader, 0, 1, 1),
         generate::data(reader, 0, 0, 0, 0),
         generate::data(reader, 0, number, 0, 2),
+        generate::data_with(reader, 0, 0, 0, &payloads::packet(4, 20, 2)),
         by_the_rule,
         generate::closing_with_lengths(reader, 0, &[]),
     ]

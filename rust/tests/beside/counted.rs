@@ -2,6 +2,10 @@
 
 /// Frames, good and damaged, read.
 pub const READ: usize = 1_000_000;
+/// The fewest of them that have to begin as IP packets behind the checks.
+pub const READ_AS_PACKETS: usize = 200_000;
+/// Payloads of which it is asked how much is kept.
+pub const KEPT: usize = 300_000;
 /// Frames read for their lengths.
 pub const LISTED: usize = 100_000;
 /// Fields from which frames are to be written: data, closings, closings with lengths.
@@ -33,6 +37,6 @@ const fn sum(counts: &[usize]) -> usize {
 }
 
 const ALL: usize =
-    READ + LISTED + sum(&WRITTEN) + sum(&SENT) + TICKS + sum(&HEARD) + FRESH + sum(&JOINED) + sum(&REPORTED) + MADE + PERIODS;
+    READ + KEPT + LISTED + sum(&WRITTEN) + sum(&SENT) + TICKS + sum(&HEARD) + FRESH + sum(&JOINED) + sum(&REPORTED) + MADE + PERIODS;
 
 const _: () = assert!(ALL > 3_000_000, "more than three million inputs in all");

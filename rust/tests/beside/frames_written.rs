@@ -2,11 +2,11 @@
 //! back by reading.
 use crate::counted::{LISTED, WRITTEN};
 use crate::fences::Fenced;
-use crate::frames::{Closing, Reader, Refused, length_at, refused};
-use crate::generate;
+use crate::frames::{Closing, Reader, Refused, kept, length_at, refused};
 use crate::peers::Noise;
 use crate::sequences::{Tally, any_length, below, next_to, numbered, one_in};
 use crate::writing::{write_closing, write_data, write_with_lengths};
+use crate::{generate, payloads};
 use quimdoral::{Data, Frame, Octets, Packets, Refusal, frames};
 use std::fmt::Debug;
 use std::hint::black_box;
@@ -70,6 +70,9 @@ fn packets_up_to(noise: &mut Noise, limit: u64) -> u32 {
 }
 
 fn any_payload(noise: &mut Noise) -> Vec<u8> {
+    if one_in(noise, 3) {
+        return payloads::any(noise);
+    }
     let length = match below(noise, 20) {
         0 => one_of(noise, &[4_094, 4_095, 4_096, 4_097]),
         1 if one_in(noise, 10) => one_of(noise, &[5_000, 65_535, 65_536, 70_000]),
@@ -80,7 +83,8 @@ fn any_payload(noise: &mut Noise) -> Vec<u8> {
     noise.octets(length)
 }
 
-fn data_alike(noise: &mut Noise) -> Result<(), u8> {
+/// A payload is written whole, and read back as far as it is kept. Counts those that are read back shorter.
+fn data_alike(noise: &mut Noise, shorter: &mut usize) -> Result<(), u8> {
     let most = one_of(noise, &[3, 100, 65_534, 65_534]);
     let (stamp, number) = (any_stamp(noise), packets_up_to(noise, most));
     let elapsed = count_up_to(noise, 4_095 * u64::from(number));
@@ -94,7 +98,10 @@ fn data_alike(noise: &mut Noise) -> Result<(), u8> {
     let in_a_list = numbered(data.to_vec());
     assert!(in_a_list == written || written == Err(12) && in_a_list.is_ok(), "{input:?}");
     if let Ok(frame) = &written {
-        assert_eq!(frames::read(frame), Ok(Frame::Data(data)), "read again: {frame:02X?}");
+        let payload = &payload[..kept(&payload)];
+        assert_eq!(frames::payload_kept(data.payload), payload.len(), "{frame:02X?}");
+        assert_eq!(frames::read(frame), Ok(Frame::Data(Data { payload, ..data })), "read again: {frame:02X?}");
+        *shorter += usize::from(payload.len() < data.payload.len());
     }
     assert!(*black_box(&mut given) == Fenced::around(&payload), "the payload was written to");
     written.map(|_| ())
@@ -102,11 +109,12 @@ fn data_alike(noise: &mut Noise) -> Result<(), u8> {
 
 #[test]
 fn data_is_written_alike() {
-    let (mut noise, mut tally) = (Noise(81), Tally::default());
+    let (mut noise, mut tally, mut shorter) = (Noise(81), Tally::default(), 0);
     for _ in 0..WRITTEN[0] {
-        tally.add(data_alike(&mut noise));
+        tally.add(data_alike(&mut noise, &mut shorter));
     }
     assert!(tally.calls() == WRITTEN[0] && tally.came(&[0, 5, 8, 12, 20], 2_000), "{tally:?}");
+    assert!(shorter > 2_000, "{shorter} read back shorter");
 }
 
 fn given(closing: &Closing) -> quimdoral::Closing {
@@ -257,7 +265,7 @@ fn tidied(reader: &Reader, frame: &[u8], said: &Frame) -> Vec<u8> {
     let mut tidy = frame.to_vec();
     tidy[0] &= 0xF0;
     match said {
-        Frame::Data(_) => {}
+        Frame::Data(_) => tidy.truncate(11 + kept(&frame[11..])),
         Frame::Closing(_) => tidy[17] &= 0xFC,
         Frame::ClosingWithLengths(closing) => {
             let count = closing.number.0 as usize;

@@ -11,6 +11,8 @@ mod generate;
 mod items;
 #[path = "../../peers/joining.rs"]
 mod joining;
+#[path = "../../peers/payloads.rs"]
+mod payloads;
 #[path = "../../peers/checks.rs"]
 mod peers;
 #[path = "../../peers/records.rs"]
@@ -32,11 +34,14 @@ mod checks_alike;
 mod checks_told;
 mod clock_alike;
 mod counted;
+mod extensions_dropped;
 mod frames_read;
 mod frames_written;
+mod payloads_kept;
 mod readme;
 mod records_heard;
 mod records_joined;
 mod records_reported;
 mod senders_alike;
 mod sent_and_heard;
+mod sides_met;

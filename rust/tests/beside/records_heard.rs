@@ -8,6 +8,7 @@ use crate::generate;
 use crate::peers::Noise;
 use crate::records::{PlainRecord, Written};
 use crate::sequences::{DAMAGES, LONGEST, Sequence, Tally, any_capacity, at_a_bound, below, damage, found_by, next_to, numbered, one_in};
+use crate::sides_met::Sides;
 use quimdoral::{Key, Record, lent};
 
 /// Hears with the library and with the peer, and compares the answers and every number of the record afterwards, fences included.
@@ -54,7 +55,7 @@ fn spoil(noise: &mut Noise, frame: &mut Vec<u8>) {
 /// A frame for a record of a sequence: half of them good, the others wrong in one of many ways.
 fn any_frame(noise: &mut Noise, reader: &Reader, sequence: &Sequence, record: &Written) -> Vec<u8> {
     let stamp = sequence.key.stamp;
-    match below(noise, 22) {
+    match below(noise, 24) {
         0 | 1 => sequence.almost(noise).good(noise, reader),
         2 | 3 => {
             let (packet, elapsed, size) = at_a_bound(noise, record);
@@ -77,6 +78,7 @@ fn any_frame(noise: &mut Noise, reader: &Reader, sequence: &Sequence, record: &W
             generate::spoil_a_check(noise, &mut frame);
             frame
         }
+        13 => sequence.replaced(noise, reader),
         _ => sequence.good(noise, reader),
     }
 }
@@ -91,11 +93,12 @@ fn any_way(noise: &mut Noise, key: Key) -> (u32, u32) {
     }
 }
 
-/// Hears frames of many sequences of at most so many packets, and tells how often each answer came, and with which checks.
-fn hear_many(seed: u64, most: u64, calls: usize) -> (Tally, WrongChecks) {
+/// Hears frames of many sequences of at most so many packets, and tells how often each answer came, with which checks, and of which
+/// payloads.
+fn hear_many(seed: u64, most: u64, calls: usize) -> (Tally, WrongChecks, Sides) {
     let reader = Reader::new();
     let mut noise = Noise(seed);
-    let (mut tally, mut wrong) = (Tally::default(), WrongChecks::default());
+    let (mut tally, mut wrong, mut sides) = (Tally::default(), WrongChecks::default(), Sides::default());
     while tally.calls() < calls {
         let sequence = Sequence::any(&mut noise, most);
         let Key { bearer, period, stamp } = sequence.key;
@@ -108,26 +111,30 @@ fn hear_many(seed: u64, most: u64, calls: usize) -> (Tally, WrongChecks) {
             let answer = hear_alike(&mut record, &reader, way, &frame);
             assert_eq!(plain.hear(&reader, way.0, way.1, &frame), answer, "the plain record on {frame:02X?} after {record:?}");
             tally.add(answer);
+            sides.add(&frame, answer);
             if let Err(why) = answer {
                 wrong.add(&frame, why);
             }
         }
         same_as_plain(&record, &plain);
     }
-    (tally, wrong)
+    (tally, wrong, sides)
 }
 
 #[test]
 fn frames_are_heard_alike() {
-    let (tally, wrong) = hear_many(21, 30, HEARD[0]);
+    let (tally, wrong, sides) = hear_many(21, 30, HEARD[0]);
     // every answer that an undamaged record can give came up often enough to mean something
     assert!(tally.calls() >= HEARD[0] && (0..12).all(|answer| tally.0[answer] > 300), "{tally:?}");
     wrong.all_came();
+    // packets were heard without what stood behind them, also from frames that are longer than the longest payload
+    sides.extensions_came(1_500);
+    sides.long_ones_came(1_000);
 }
 
 #[test]
 fn frames_are_heard_alike_in_longer_records() {
-    let (tally, _) = hear_many(26, 1_000, HEARD[1]);
+    let (tally, ..) = hear_many(26, 1_000, HEARD[1]);
     assert!(tally.calls() >= HEARD[1] && [0, 9, 10, 11].iter().all(|&answer| tally.0[answer] > 1_000), "{tally:?}");
 }
 
@@ -138,9 +145,10 @@ fn same_as_plain(record: &Written, plain: &PlainRecord) {
     assert_eq!(closing, plain.closing);
 }
 
+/// Nor does an extension, be it there in one of the frames of a packet and not in another.
 #[test]
 fn no_order_repeat_or_loss_makes_hearing_refuse() {
-    let reader = Reader::new();
+    let (reader, mut sides) = (Reader::new(), Sides::default());
     let mut noise = Noise(22);
     for _ in 0..1_000 {
         let sequence = Sequence::any(&mut noise, 30);
@@ -151,6 +159,7 @@ fn no_order_repeat_or_loss_makes_hearing_refuse() {
         let mut other = one.clone();
         for frame in &frames {
             assert_eq!(hear_alike(&mut one, &reader, (bearer, period), frame), Ok(()));
+            sides.add(frame, Ok(()));
         }
         frames.sort_by_key(|frame| frame.iter().rev().copied().collect::<Vec<u8>>());
         for frame in &frames {
@@ -158,6 +167,7 @@ fn no_order_repeat_or_loss_makes_hearing_refuse() {
         }
         assert_eq!(one, other);
     }
+    sides.extensions_came(300);
 }
 
 /// A record of a sequence after some of its frames.

@@ -3,6 +3,7 @@
 use crate::counted::SENT;
 use crate::fences::Fenced;
 use crate::frames_written::{any_room, one_of, spoil_lengths, write_alike};
+use crate::payloads;
 use crate::peers::Noise;
 use crate::senders::{CLOSED, FRESH, OPEN, State};
 use crate::sequences::{Tally, below, next_to, one_in};
@@ -99,7 +100,11 @@ fn call_alike(noise: &mut Noise, state: &mut State, call: &Call, room: usize) ->
     answer.map(|_| ())
 }
 
+/// A sender takes any octets, IP packets with an extension too, and counts them all.
 fn any_payload(noise: &mut Noise) -> Vec<u8> {
+    if one_in(noise, 4) {
+        return payloads::any(noise);
+    }
     let length = match below(noise, 16) {
         0 => one_of(noise, &[4_094, 4_095, 4_096, 4_097, 9_000]),
         1 => below(noise, 4_096),

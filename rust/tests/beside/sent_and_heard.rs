@@ -1,8 +1,9 @@
 //! The types that own their memory, from the sender to the report: what receivers lost is what is told missing. Then records made from
 //! parts, damaged ones too, beside the peer.
 use crate::counted::{MADE, PERIODS};
-use crate::frames::{Reader, Refused};
+use crate::frames::{Reader, Refused, kept, refused};
 use crate::joining::JoinRefusal;
+use crate::payloads::packet;
 use crate::peers::Noise;
 use crate::records::Written;
 use crate::sequences::{DAMAGES, Sequence, Tally, any_capacity, any_length, below, damage, numbered, one_in};
@@ -17,13 +18,24 @@ struct Sent {
     frames: Vec<Vec<u8>>,
 }
 
+/// A payload from which nothing is dropped: octets of any kind, or a whole IP packet.
+fn whole_payload(noise: &mut Noise, length: u64) -> Vec<u8> {
+    let payload = match below(noise, 4) {
+        0 => packet(4, length as usize, 0),
+        1 => packet(6, length as usize, 0),
+        _ => noise.octets(length as usize),
+    };
+    assert_eq!(kept(&payload), payload.len(), "a payload that is read back shorter: {payload:02X?}");
+    payload
+}
+
 impl Sent {
     fn by(sender: &mut Sender, noise: &mut Noise, key: Key) -> Sent {
         sender.open(key.stamp).expect("a later stamp");
         let before = sender.state();
         let wide = one_in(noise, 8);
         let lengths: Vec<u64> = (0..below(noise, 25)).map(|_| any_length(noise, wide)).collect();
-        let send = |&length: &u64| sender.data_to_vec(&noise.octets(length as usize)).expect("a packet of an open sequence");
+        let send = |&length: &u64| sender.data_to_vec(&whole_payload(noise, length)).expect("a packet of an open sequence");
         let mut frames: Vec<_> = lengths.iter().map(send).collect();
         let (number, elapsed) = (Packets(lengths.len() as u32), Octets(lengths.iter().sum()));
         let with_lengths: Vec<u16> = lengths.iter().map(|&length| length as u16).collect();
@@ -111,6 +123,40 @@ fn what_two_receivers_lost_is_told_missing() {
         }
         assert_eq!(sender.new_period(), Ok(()));
         assert_eq!(sender, Sender::new());
+    }
+}
+
+/// Two frames that our sender sends after some others: this payload, which has the packet number given, and then a packet or the closing.
+fn sent_with_stray_octets(noise: &mut Noise, key: Key, stray: &[u8]) -> (Packets, [Vec<u8>; 2]) {
+    let mut sender = Sender::new();
+    sender.open(key.stamp).unwrap();
+    for _ in 0..below(noise, 4) {
+        let length = any_length(noise, false);
+        sender.data_to_vec(&whole_payload(noise, length)).unwrap();
+    }
+    let number = sender.state().number;
+    let data = sender.data_to_vec(stray).unwrap();
+    let next = if one_in(noise, 2) { sender.close_to_vec() } else { sender.data_to_vec(b"news") };
+    (number, [data, next.unwrap()])
+}
+
+/// The sender counts all octets that it is given, and receivers drop those behind an IP packet: the frame and the next one contradict each
+/// other, whichever is heard first. So what our sender wrote is heard as it was sent only where nothing is dropped from it.
+#[test]
+fn octets_behind_our_own_packets_contradict() {
+    let (mut noise, key) = (Noise(104), Key { bearer: 7, period: 3, stamp: 5 });
+    for (version, behind) in [4, 6].into_iter().flat_map(|version| (1..=4).map(move |behind| (version, behind))) {
+        for _ in 0..50 {
+            let length = 40 + below(&mut noise, 100) as usize;
+            let (number, [stray, next]) = sent_with_stray_octets(&mut noise, key, &packet(version, length, behind));
+            let mut record = Record::fresh(key, 8).unwrap();
+            assert_eq!(record.hear(7, 3, &stray), Ok(()));
+            assert_eq!(record.heard(number).map(|heard| heard.length), Some(Octets(length as u64)));
+            assert_eq!(record.hear(7, 3, &next).map_err(Refused::from), refused(11), "behind {behind} octets of IPv{version}");
+            let mut record = Record::fresh(key, 8).unwrap();
+            assert_eq!(record.hear(7, 3, &next), Ok(()));
+            assert_eq!(record.hear(7, 3, &stray).map_err(Refused::from), refused(11), "{behind} octets behind IPv{version}");
+        }
     }
 }
 

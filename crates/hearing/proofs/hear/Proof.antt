@@ -6,8 +6,7 @@ use denote.Ref.{now}
 use Rattle.frame.specs.declared.Read.{Read}
 use Rattle.frame.specs.Reading.{readFrame}
 use Rattle.frame.proofs.OnePaper.{read-known}
-use Rattle.frame.proofs.Payload.{part-payload}
-use Rattle.frame.proofs.Said.{HandedOn, data-said, handed-on}
+use Rattle.frame.proofs.Said.{DataSaid, data-said, handed-length}
 use Rattle.reception.specs.Hearing.{keptIn, listsDiffer, hearRead, hearFrame}
 use Rattle.hearing.proofs.Answered.{refused-as}
 use Rattle.reception.proofs.KeptAsHeld.{lists-matched}
@@ -51,25 +50,28 @@ enum-known-read c = search needs
 enum-known-read-2 : tie.Need-enum-known-read-2
 enum-known-read-2 c = search needs
 
--- what the frame hands on
-part : (c : tie.After-read2) → HandedOn (now (c .before .before .before .before .before .before .before .before .before .args .frame)) (c .read2 .given .0 .0)
-part c = handed-on _ _ (told (c .before .before) ∙ c .read2 .given .1)
+-- what the data PDU says
+said : (c : tie.After-read2) → DataSaid (now (c .before .before .before .before .before .before .before .before .before .args .frame)) (c .read2 .given .0 .0)
+said c = data-said _ _ (told (c .before .before) ∙ c .read2 .given .1)
+
+add-hear-data : tie.Need-add-hear-data
+add-hear-data c = let d = said (c .before .before .before .before) in omega (arith, d .short)
 
 sub-hear-data : tie.Need-sub-hear-data
-sub-hear-data c = omega (arith, part (c .before .before .before .before) .there)
+sub-hear-data c = search needs
 
 part-hear-data-start : tie.Need-part-hear-data-start
-part-hear-data-start c = omega (arith, part (c .before .before .before .before) .there)
+part-hear-data-start c = search needs
 
 part-hear-data-end : tie.Need-part-hear-data-end
-part-hear-data-end c = omega (arith, part (c .before .before .before .before) .there)
+part-hear-data-end c = omega (arith, said (c .before .before .before .before) .least)
 
 hear-data-requires : tie.Need-hear-data-requires
 hear-data-requires c κs =
     let r = c .before .before .before .before .before in
     let f = r .before .before in
-    let d = data-said _ _ (told f ∙ r .read2 .given .1) in
-    let l = part r .recorded ∙ ap length (sym (part-payload _)) in
+    let d = said r in
+    let l = handed-length _ _ d in
     (lists-matched _ _ _ (even f), ((omega (arith, d .number, d .elapsed), omega (arith, l, d .short)), l))
 
 enum-known-read-3 : tie.Need-enum-known-read-3
@@ -146,6 +148,7 @@ hear-spec =
     read-frame-requires
     enum-known-read
     enum-known-read-2
+    add-hear-data
     sub-hear-data
     part-hear-data-start
     part-hear-data-end

@@ -6,8 +6,7 @@ use Rattle.frame.specs.declared.Read.{Read}
 use Rattle.frame.specs.Reading.{readFrame}
 use Rattle.reception.specs.Hearing.{keptIn, hearRead, hearFrame}
 use Rattle.frame.proofs.OnePaper.{read-known}
-use Rattle.frame.proofs.Payload.{part-payload}
-use Rattle.frame.proofs.Said.{HandedOn, data-said, handed-on}
+use Rattle.frame.proofs.Said.{DataSaid, data-said, handed-length}
 use Rattle.reception.proofs.KeptAsHeld.{matched-lists}
 use Rattle.hearing.proofs.Judged.{frame-read, packet-judged, closing-judged, closing-only, unread}
 use Rattle.hearing.proofs.SpanKept.{follows-still, same-follows}
@@ -36,26 +35,29 @@ enum-known-read c = search needs
 enum-known-read-2 : tie.Need-enum-known-read-2
 enum-known-read-2 c = search needs
 
--- what the frame hands on
-part : (c : tie.After-read2) → HandedOn (now (c .before .before .before .before .before .before .before .args .frame)) (c .read2 .given .0 .0)
-part c = handed-on _ _ (told (c .before .before) ∙ c .read2 .given .1)
+-- what the data PDU says
+said : (c : tie.After-read2) → DataSaid (now (c .before .before .before .before .before .before .before .args .frame)) (c .read2 .given .0 .0)
+said c = data-said _ _ (told (c .before .before) ∙ c .read2 .given .1)
+
+add-next-packet : tie.Need-add-next-packet
+add-next-packet c = let d = said (c .before .before .before .before) in omega (arith, d .short)
 
 sub-next-packet : tie.Need-sub-next-packet
-sub-next-packet c = omega (arith, part (c .before .before .before .before) .there)
+sub-next-packet c = search needs
 
 part-next-packet-start : tie.Need-part-next-packet-start
-part-next-packet-start c = omega (arith, part (c .before .before .before .before) .there)
+part-next-packet-start c = search needs
 
 part-next-packet-end : tie.Need-part-next-packet-end
-part-next-packet-end c = omega (arith, part (c .before .before .before .before) .there)
+part-next-packet-end c = omega (arith, said (c .before .before .before .before) .least)
 
 next-packet-requires : tie.Need-next-packet-requires
 next-packet-requires c κs =
     let r = c .before .before .before .before .before in
     let f = r .before .before in
     let p = f .before .before .before .before .before .pre in
-    let d = data-said _ _ (told f ∙ r .read2 .given .1) in
-    let l = part r .recorded ∙ ap length (sym (part-payload _)) in
+    let d = said r in
+    let l = handed-length _ _ d in
     (p .0, (p .1 .0, (p .1 .1 .0, (p .1 .1 .1, (omega (arith, d .number), omega (arith, d .number, d .elapsed), omega (arith, l, d .short), l)))))
 
 enum-known-read-3 : tie.Need-enum-known-read-3
@@ -133,6 +135,7 @@ hear-next-spec =
     read-frame-requires
     enum-known-read
     enum-known-read-2
+    add-next-packet
     sub-next-packet
     part-next-packet-start
     part-next-packet-end

@@ -19,7 +19,7 @@ field-requires-3 : tie.Need-field-requires-3
 field-requires-3 c κs = search needs
 
 returns : tie.Need-returns
-returns c = rw (← (c .before .before .before .before .before .pre .1), c .before .before .field .ensures .0, c .before .field2 .ensures .0, c .field3 .ensures .0)
+returns c = rw (← (c .before .before .before .before .pre .1), c .before .before .field .ensures .0, c .before .field2 .ensures .0, c .field3 .ensures .0)
 
 pub data-of-spec : {M : Type 1} → statement M
 data-of-spec =

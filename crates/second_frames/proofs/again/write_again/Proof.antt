@@ -24,7 +24,7 @@ write-data-again-requires c κs =
     let r = c .before .before in
     let f = r .before .before in
     let d = data-said _ _ (sym (read-known (f .read-frame .result) _ (f .read-frame .ensures)) ∙ r .read2 .given .1) in
-    omega (arith, d .size)
+    d .least
 
 enum-known-read-3 : tie.Need-enum-known-read-3
 enum-known-read-3 c = search needs

@@ -5,6 +5,9 @@ use borrow.Author.Needs.{needs}
 use Rattle.second_frames.proofs.again.write_data_again.Statement.{statement}
 use Rattle.second_frames.proofs.again.write_data_again.Tie as tie
 
+add-payload : tie.Need-add-payload
+add-payload c = search needs
+
 sub-payload : tie.Need-sub-payload
 sub-payload c = search needs
 
@@ -30,6 +33,7 @@ pub write-data-again-spec : {M : Type 1} → statement M
 write-data-again-spec =
     tie.close
     (tie.spec
+    add-payload
     sub-payload
     part-payload-start
     part-payload-end

@@ -1,0 +1,63 @@
+-- A frame for each clause of the rule of a Type 1 payload (document 02, request 2): the octets behind an IP packet are dropped, and where
+-- its header is not as it should be, "all of it is payload". Assumes nothing.
+use Prim.Native.Nat.{ℕ}
+use mathlib.Core.Path.{_≡_, refl}
+use mathlib.Core.List.{List, [], _∷_, _++_}
+use lib.ListN.{replicate}
+use Rattle.fields.specs.Numbers.{be}
+use Rattle.checks.specs.Check.{divide, lowDigits, bitsOf, check}
+use Rattle.frame.specs.declared.Read.the-variants.{Data}
+use Rattle.frame.specs.Counts.{dataWrong}
+use Rattle.frame.specs.Payloads.{startsV4, startsV6, payloadKept}
+use Rattle.frame.specs.Reading.{readFrame, readHeaded, readBody}
+use Rattle.frame.proofs.BenchExamples.{first}
+
+-- a first packet, with its two octets of checks and all that stands behind them
+abbrev packet : ℕ → ℕ → List ℕ → List ℕ
+packet a b part = 0x10 ∷ replicate 8 0 ++ (a ∷ b ∷ part)
+
+-- an IPv4 header of twenty octets by its first octet and its total length, and two octets or more behind it
+abbrev headed : ℕ → ℕ → ℕ → List ℕ → List ℕ
+headed first upper lower behind = first ∷ 0 ∷ upper ∷ lower ∷ replicate 16 0 ++ behind
+
+abbrev two : List ℕ
+two = 0xAA ∷ 0xBB ∷ []
+
+-- two octets behind an IPv4 packet of twenty
+two-dropped : readFrame (packet 0x3B 0x98 (headed 0x45 0 20 two)) ≡ Data (first 20)
+unfolding be divide lowDigits bitsOf check readFrame readHeaded readBody dataWrong payloadKept startsV4 startsV6
+two-dropped = refl
+
+-- three octets behind an IPv6 packet of 41
+three-dropped : readFrame (packet 0x3A 0xC9 (0x60 ∷ 0 ∷ 0 ∷ 0 ∷ 0 ∷ 1 ∷ replicate 34 0 ++ (0x77 ∷ 0xAA ∷ 0xBB ∷ 0xCC ∷ []))) ≡ Data (first 41)
+unfolding be divide lowDigits bitsOf check readFrame readHeaded readBody dataWrong payloadKept startsV4 startsV6
+three-dropped = refl
+
+-- "states less than its own header": 19
+less-than-header : readFrame (packet 0x3A 0x70 (headed 0x45 0 19 two)) ≡ Data (first 22)
+unfolding be divide lowDigits bitsOf check readFrame readHeaded readBody dataWrong payloadKept startsV4 startsV6
+less-than-header = refl
+
+-- "IHL under 5"
+ihl-of-four : readFrame (packet 0x3B 0x74 (headed 0x44 0 20 two)) ≡ Data (first 22)
+unfolding be divide lowDigits bitsOf check readFrame readHeaded readBody dataWrong payloadKept startsV4 startsV6
+ihl-of-four = refl
+
+-- "another version"
+version-five : readFrame (packet 0x39 0x3E (headed 0x55 0 20 two)) ≡ Data (first 22)
+unfolding be divide lowDigits bitsOf check readFrame readHeaded readBody dataWrong payloadKept startsV4 startsV6
+version-five = refl
+
+-- "more than is there": 23, and 5,120, which is 20 with the least significant octet first
+more-than-there : readFrame (packet 0x3A 0x2D (headed 0x45 0 23 two)) ≡ Data (first 22)
+unfolding be divide lowDigits bitsOf check readFrame readHeaded readBody dataWrong payloadKept startsV4 startsV6
+more-than-there = refl
+
+octets-exchanged : readFrame (packet 0x3A 0x21 (headed 0x45 20 0 two)) ≡ Data (first 22)
+unfolding be divide lowDigits bitsOf check readFrame readHeaded readBody dataWrong payloadKept startsV4 startsV6
+octets-exchanged = refl
+
+-- "over 4 octets less": five octets behind
+five-behind : readFrame (packet 0x39 0x00 (headed 0x45 0 20 (0xAA ∷ 0xBB ∷ 0xCC ∷ 0xDD ∷ 0xEE ∷ []))) ≡ Data (first 25)
+unfolding be divide lowDigits bitsOf check readFrame readHeaded readBody dataWrong payloadKept startsV4 startsV6
+five-behind = refl
