@@ -8,7 +8,6 @@ use mathlib.Core.List.{List}
 use lib.ListN.{length, getD}
 use borrow.Author.Tests.{le-ltb, lt-leb, eq-eqb}
 use Rattle.units.specs.Limits.{lastStamp, mostPayload, mostInSequence}
-use Rattle.fields.specs.Numbers.{be}
 use Rattle.fields.proofs.ReadAgain.{be-lt}
 use Rattle.frame.specs.declared.ClosingPdu.{ClosingPdu}
 use Rattle.frame.specs.declared.DataPdu.{DataPdu}

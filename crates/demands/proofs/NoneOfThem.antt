@@ -2,8 +2,8 @@
 use Prim.Native.Nat.{ℕ}
 use native.Mathlib.Omega.{arith}
 use mathlib.Core.Path.{_≡_, refl, sym, ap, _∙_}
-use mathlib.Core.List.{List, [], _∷_, _++_}
-use lib.ListN.{getD, replicate}
+use mathlib.Core.List.{List, [], _∷_}
+use lib.ListN.{getD}
 use Rattle.fields.specs.Numbers.{be, octets}
 use Rattle.checks.specs.Check.{divide, lowDigits, bitsOf, check}
 use Rattle.frame.specs.Counts.{someOf, dataWrong}
@@ -11,6 +11,8 @@ use Rattle.frame.specs.Paper.{ReadPaper, CountPaper, readPaper, writtenPaper}
 use Rattle.frame.specs.Payloads.{startsV4, startsV6, payloadKept}
 use Rattle.frame.specs.Reading.{readFrame, readHeaded, readBody}
 use Rattle.frame.specs.Writing.{dataFrame, writeData}
+use Rattle.frame.specs.declared.Read.{Read}
+use Rattle.frame.proofs.ExtensionDropped.{frameWith, ipv4, two, two-dropped}
 use Rattle.reception.specs.Adding.{packetContradicts, closingContradicts}
 use Rattle.reception.specs.Damage.{placeWrong, placesWrong, closingOff, walkFails, damagedRecord}
 use Rattle.reception.specs.Hearing.{Kept, emptyKept, keepPacket, listsDiffer, otherKey, hearPacket, hearRead, hearFrame}
@@ -38,11 +40,11 @@ B-payload = refl
 
 -- an IPv4 packet of twenty octets with two behind it, as a first packet
 abbrev extended : List ℕ
-extended = 0x10 ∷ replicate 8 0 ++ (0x3B ∷ 0x98 ∷ 0x45 ∷ 0 ∷ 0 ∷ 20 ∷ replicate 16 0 ++ (0xAA ∷ 0xBB ∷ []))
+extended = frameWith 0x3B 0x98 (ipv4 0x45 0 20 two)
 
 extended-read : (readPaper (readFrame extended) .kind ≡ 2) × (readPaper (readFrame extended) .payload ≡ 20)
-unfolding be divide lowDigits bitsOf check readPaper readFrame readHeaded readBody payloadKept startsV4 startsV6 dataWrong
-extended-read = (refl, refl)
+unfolding readPaper
+extended-read = (ap (λ (r : Read). readPaper r .kind) two-dropped, ap (λ (r : Read). readPaper r .payload) two-dropped)
 
 -- A can be written
 A-writable : writtenPaper (writeData 0 0 0 0 11) .accepted ≡ 1

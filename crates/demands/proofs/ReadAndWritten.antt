@@ -1,21 +1,17 @@
 -- Demand 2 holds. Assumes nothing.
-use Prim.Native.Nat.{ℕ, zero, suc, _+_, _%_, _≤_}
+use Prim.Native.Nat.{ℕ, zero, suc, _+_, _%_, _≤_, _<_}
 use native.Mathlib.Omega.{arith}
 use mathlib.Core.Path.{_≡_, refl, sym, ap, ap₂, subst, _∙_}
 use mathlib.Core.Logic.{_⊎_, inl, inr, ⊎-elim}
-use mathlib.Core.Bool.{false, not}
+use mathlib.Core.Bool.{false}
 use mathlib.Core.List.{List}
-use lib.Dec.{ltb, eqb}
-use lib.ListN.{length, getD, take, drop}
-use lib.Seq.{take-all, take-at, take-length}
-use borrow.Author.Tests.{eqb-true, not-false}
+use lib.ListN.{length, getD, take, drop, length-drop}
+use lib.Seq.{take-length}
+use borrow.Author.Tests.{lt-ltb}
 use Rattle.units.specs.declared.Refusal.{Refusal}
 use Rattle.units.specs.Limits.{lastStamp, mostPayload}
-use Rattle.units.specs.Refusals.{stampTooHigh, payloadTooLong, countsImpossible, noRoom}
-use Rattle.fields.specs.Numbers.{octets}
+use Rattle.units.specs.Refusals.{sizeWrong}
 use Rattle.fields.specs.Runs.{front}
-use Rattle.fields.proofs.Choosing.{past}
-use Rattle.fields.proofs.Laying.{take-front}
 use Rattle.fields.proofs.Tests.{or-false}
 use Rattle.checks.specs.Check.{payloadCheck}
 use Rattle.frame.specs.declared.ClosingPdu.{ClosingPdu}
@@ -24,29 +20,28 @@ use Rattle.frame.specs.declared.Read.{Read}
 use Rattle.frame.specs.declared.Read.the-variants.{Closing, Data, ClosingWithLengths, Refused}
 use Rattle.frame.specs.declared.Written.{Written}
 use Rattle.frame.specs.declared.Written.the-variants.{Done}
-use Rattle.frame.specs.Counts.{dataWrong, closingWrong, lengthsWrong}
-use Rattle.frame.specs.Layout.{typeOf, control, payloadCheckIn, payloadPart, payloadLength, payloadOf, filled, lengthsOf, dataOf, closingOf}
-use Rattle.frame.specs.Paper.{readPaper, writtenPaper}
+use Rattle.frame.specs.Counts.{closingWrong, lengthsWrong}
+use Rattle.frame.specs.Layout.{typeOf, stampOf, control, payloadCheckIn, payloadPart, payloadLength, dataPdu, filled, lengthsOf, closingOf}
+use Rattle.frame.specs.Paper.{readPaper}
 use Rattle.frame.specs.Payloads.{payloadKept, AllPayload, Extended}
-use Rattle.frame.specs.Reading.{checkWrong, said, readFrame}
-use Rattle.frame.specs.Writing.{refuseWrite, writeData, writeClosing, writeLengths, dataFrame, closingFrame, lengthsFrame, after}
+use Rattle.frame.specs.Reading.{refuse, headerWrong, checkWrong, said, readFrame}
+use Rattle.frame.specs.Writing.{writeData, writeClosing, writeLengths, dataFrame, closingFrame, lengthsFrame, after}
 use Rattle.frame.proofs.Accepted.{good-read, read-closing, read-with-lengths}
 use Rattle.frame.proofs.OnePaper.{read-known, written-known}
-use Rattle.frame.proofs.Payloads.{dropped, only-dropped}
+use Rattle.frame.proofs.ChecksTold.{size-refused}
+use Rattle.frame.proofs.Payloads.{only-dropped, always-dropped}
+use Rattle.frame.proofs.ReadBack.{extended-back}
 use Rattle.frame.proofs.Said.{data-said, closing-said, lengths-said}
-use Rattle.frame.proofs.WhatWentIn.{data-length, data-went-in, closing-went-in, lengths-went-in}
-use Rattle.frame.proofs.WrittenAgain.{Plain, data-again, closing-again, lengths-again}
+use Rattle.frame.proofs.WhatWentIn.{data-went-in, data-there, closing-went-in, lengths-went-in}
+use Rattle.frame.proofs.WrittenAgain.{Plain, equal, data-again, closing-again, lengths-again}
 use Rattle.writer.specs.Promise.{Wrote}
-use Rattle.demands.specs.Demand2.{ReadAs, BothChecks, SpareZero, dataPdu, Demand2}
+use Rattle.demands.specs.Demand2.{ReadAs, BothChecks, SpareZero, Demand2}
 use Rattle.demands.proofs.AcceptedAgain.{lengths-long, data-writable, closing-writable, lengths-writable, list-writable}
 
 -- an accepted answer is no refusal
 not-refused : (r : Read) → (readPaper r .kind ≡ 0 → ⊥) → (x : Refusal) → Refused x ≡ r → ⊥
 unfolding readPaper
 not-refused r h y e = h (sym (ap (λ (x : Read). readPaper x .kind) e))
-
-equal : (a b : ℕ) → not (eqb a b) ≡ false → a ≡ b
-equal a b e = eqb-true a b (not-false (eqb a b) e)
 
 payload-right : (t : ℕ) (s : List ℕ) → checkWrong t s ≡ false → (t ≡ 0 → ⊥) → payloadCheck (payloadPart (control t) s) ≡ payloadCheckIn (control t) s
 payload-right zero s e h = absurd (h refl)
@@ -71,39 +66,13 @@ module _ (a : Written) (frame old : List ℕ) (k : ℕ) (new : List ℕ) (w : Wr
 read-of : (s t : List ℕ) (r x : Read) → ReadAs s r → s ≡ t → readFrame t ≡ x → r ≡ x
 read-of s t r x e q h = read-known r (readFrame s) e ∙ ap readFrame q ∙ h
 
--- the payload of a data PDU that was written
-no-refusal : (k n : ℕ) → refuseWrite n ≡ Done k → ⊥
-unfolding writtenPaper
-no-refusal k n e = let z : _≡_ {A = ℕ} 0 1 = ap (λ (x : Written). writtenPaper x .accepted) e in absurd (omega (arith, z))
-
-size-of : (stamp n e l room k : ℕ) → writeData stamp n e l room ≡ Done k → 11 + l ≡ k
-unfolding writeData writtenPaper
-size-of stamp n e l room k h =
-    let p1 = past (refuseWrite stampTooHigh) _ (Done k) (ltb lastStamp stamp) (no-refusal k stampTooHigh) h in
-    let p2 = past (refuseWrite payloadTooLong) _ (Done k) (ltb mostPayload l) (no-refusal k payloadTooLong) (p1 .1) in
-    let p3 = past (refuseWrite countsImpossible) _ (Done k) (dataWrong n e) (no-refusal k countsImpossible) (p2 .1) in
-    let p4 = past (refuseWrite noRoom) (Done (11 + l)) (Done k) (ltb room (11 + l)) (no-refusal k noRoom) (p3 .1) in
-    ap (λ (x : Written). writtenPaper x .count) (p4 .1)
-
-payload-is : (stamp n e : ℕ) (p : List ℕ) → payloadOf (dataFrame stamp n e p) ≡ take (payloadKept p) p
-unfolding octets dataFrame
-payload-is stamp n e p = refl
-
-payload-there : (stamp n e : ℕ) (p old : List ℕ) (k : ℕ) → 11 + length p ≡ k
-    → payloadOf (take k (after (Done k) (dataFrame stamp n e p) old)) ≡ take (payloadKept p) p
-unfolding after
-payload-there stamp n e p old k z =
-    ap payloadOf (take-front old (dataFrame stamp n e p) k (data-length stamp n e p ∙ z)) ∙ payload-is stamp n e p
-
 data-back-written : (stamp n e : ℕ) (p old : List ℕ) (k : ℕ) (new : List ℕ) (r : Read)
     → Wrote (writeData stamp n e (length p) (length old)) (dataFrame stamp n e p) old (Done k) new → ReadAs (take k new) r
-    → (r ≡ Data (dataPdu stamp n e (payloadKept p))) × (payloadOf (take k new) ≡ take (payloadKept p) p)
+    → (r ≡ Data (dataPdu stamp n e (payloadKept p))) × (drop 11 (take k new) ≡ p)
 data-back-written stamp n e p old k new r w h =
     let q = ap (take k) (left-is _ _ old k new w) in
-    let d = done-is _ _ old k new w in (
-      read-of _ _ r _ h q (data-went-in stamp n e (length old) k p old d),
-      ap payloadOf q ∙ payload-there stamp n e p old k (size-of stamp n e (length p) (length old) k d),
-    )
+    let d = done-is _ _ old k new w in
+    (read-of _ _ r _ h q (data-went-in stamp n e (length old) k p old d), ap (drop 11) q ∙ data-there stamp n e (length old) k p old d)
 
 -- what writing again leaves
 again : (a : Written) (frame old : List ℕ) (k : ℕ) (r : Written) (new s : List ℕ) → Wrote a frame old r new → a ≡ Done k → k ≡ length s → frame ≡ s
@@ -120,17 +89,25 @@ plain s z = record { octet = z .octet; spare = z .spare }
 read-as : (s : List ℕ) (x : Read) → ReadAs s x → readFrame s ≡ x
 read-as s x e = sym (read-known x (readFrame s) e)
 
--- the fields of a data PDU that was read
-data-fields : (s : List ℕ) (d : DataPdu) → ReadAs s (Data d) → d ≡ dataOf s
-data-fields s d e = data-said s d (read-as s (Data d) e) .fields
+-- the length that a data PDU says
+length-said : (s : List ℕ) (d : DataPdu) → ReadAs s (Data d) → d .length .0 ≡ payloadLength s
+length-said s d e = ap (λ (y : DataPdu). y .length .0) (data-said s d (read-as s (Data d) e) .fields)
 
-nothing-else-dropped : (s : List ℕ) (d : DataPdu) → ReadAs s (Data d) → (payloadOf s ≡ drop 11 s) ⊎ Extended (drop 11 s) (d .length .0)
+nothing-else-dropped : (s : List ℕ) (d : DataPdu) → ReadAs s (Data d) → (length s ≡ 11 + d .length .0) ⊎ Extended (drop 11 s) (d .length .0)
 nothing-else-dropped s d e =
-    let l : d .length .0 ≡ payloadLength s = ap (λ (y : DataPdu). y .length .0) (data-fields s d e) in
+    let l = length-said s d e in
+    let n = length-drop 11 s in
+    let m = data-said s d (read-as s (Data d) e) .least in
     ⊎-elim
-    (λ (all : AllPayload (drop 11 s)). inl (take-all (payloadLength s) (drop 11 s) (omega (arith, all))))
+    (λ (all : AllPayload (drop 11 s)). inl (omega (arith, all, l, m, n)))
     (λ (x : Extended (drop 11 s) (payloadLength s)). inr (rw l x))
     (only-dropped (drop 11 s))
+
+too-long-refused : (s : List ℕ) (r : Read) → typeOf s ≡ 1 → 11 ≤ length s → headerWrong 9 s ≡ false → stampOf s ≤ lastStamp
+    → mostPayload < payloadLength s → ReadAs s r → r ≡ refuse sizeWrong
+too-long-refused s r one long h st big e =
+    read-known r (readFrame s) e
+    ∙ size-refused s (λ two. omega (arith, one, two)) (omega (arith, one)) (rw one long) (rw one h) st (rw one (lt-ltb mostPayload (payloadLength s) big))
 
 closing-again-written : (s : List ℕ) (c : ClosingPdu) (old : List ℕ) (r : Written) (new : List ℕ) → SpareZero s → getD s 17 0 % 4 ≡ 0
     → ReadAs s (Closing c) → length s ≤ length old → Wrote (writeClosing c (length old)) (closingFrame c) old r new → (r ≡ Done (length s)) × (new ≡ front old s)
@@ -163,14 +140,16 @@ pub demand-2 : Demand2
 demand-2 =
     record {
       checked = checked;
-      extension-dropped = λ s p x d e q i few.
-          let l : payloadLength s ≡ length p = ap payloadKept q ∙ dropped p x i few in
-          (ap (λ (y : DataPdu). y .length .0) (data-fields s d e) ∙ l, ap₂ take l q ∙ take-at p x (length p) refl);
+      payload-told = λ s d e. ap (λ (l : ℕ). take l (drop 11 s)) (sym (length-said s d e));
+      extension-dropped = λ s d n e x. length-said s d e ∙ always-dropped (drop 11 s) n x;
       nothing-else = nothing-else-dropped;
+      extended-back = λ stamp n e p x r st sz w i few h. read-known r _ h ∙ extended-back stamp n e p x st sz w i few;
+      too-long = too-long-refused;
       data-back = data-back-written;
       data-back-whole = λ stamp n e p old k new r all w h.
           let b = data-back-written stamp n e p old k new r w h in
-          (b .0 ∙ ap (λ (l : ℕ). Data (dataPdu stamp n e l)) all, b .1 ∙ ap (λ (l : ℕ). take l p) all ∙ take-length p);
+          let kept : payloadLength (take k new) ≡ length p = ap payloadKept (b .1) ∙ all in
+          (b .0 ∙ ap (λ (l : ℕ). Data (dataPdu stamp n e l)) all, ap₂ take kept (b .1) ∙ take-length p);
       closing-back = λ c old k new r w e.
           read-of _ _ r _ e (ap (take k) (left-is _ _ old k new w)) (closing-went-in c (length old) k old (done-is _ _ old k new w));
       lengths-back = λ c ls old k new r w e.

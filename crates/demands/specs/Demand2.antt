@@ -4,8 +4,11 @@
 use Prim.Native.Nat.{ℕ, _+_, _%_, _≤_, _<_}
 use mathlib.Core.Path.{_≡_}
 use mathlib.Core.Logic.{_⊎_}
+use mathlib.Core.Bool.{false}
 use mathlib.Core.List.{List, _++_}
 use lib.ListN.{length, getD, take, drop}
+use Rattle.units.specs.Limits.{mostPayload, lastStamp}
+use Rattle.units.specs.Refusals.{sizeWrong}
 use Rattle.fields.specs.Runs.{front}
 use Rattle.checks.specs.Check.{headerCheck, payloadCheck}
 use Rattle.frame.specs.declared.ClosingPdu.{ClosingPdu}
@@ -14,11 +17,12 @@ use Rattle.frame.specs.declared.Read.{Read}
 use Rattle.frame.specs.declared.Read.the-variants.{Closing, Data, ClosingWithLengths}
 use Rattle.frame.specs.declared.Written.{Written}
 use Rattle.frame.specs.declared.Written.the-variants.{Done}
-use Rattle.frame.specs.Layout.{typeOf, control, headerCheckIn, payloadCheckIn, payloadPart, payloadOf, filled, lengthsOf}
+use Rattle.frame.specs.Layout.{typeOf, stampOf, control, headerCheckIn, payloadCheckIn, payloadPart, payloadLength, payloadOf, dataPdu, filled, lengthsOf}
 use Rattle.frame.specs.Paper.{readPaper}
 use Rattle.frame.specs.Payloads.{payloadKept, AllPayload, IpPacket, Extended}
-use Rattle.frame.specs.Reading.{said, readFrame}
-use Rattle.frame.specs.Sizes.{dataHead, longControl, lengthsHead}
+use Rattle.frame.specs.Counts.{dataWrong}
+use Rattle.frame.specs.Reading.{refuse, headerWrong, said, readFrame}
+use Rattle.frame.specs.Sizes.{shortControl, longControl, dataHead, lengthsHead}
 use Rattle.frame.specs.Writing.{writeData, writeClosing, writeLengths, dataFrame, closingFrame, lengthsFrame}
 use Rattle.writer.specs.Promise.{Wrote}
 
@@ -36,24 +40,26 @@ pub record SpareZero (s : List ℕ) : Type 0 where
   pub octet : (i : ℕ) → getD s i 0 < 256
   pub spare : getD s 0 0 % 16 ≡ 0
 
--- a data PDU of these fields and a payload of l octets
-abbrev pub dataPdu : ℕ → ℕ → ℕ → ℕ → DataPdu
-dataPdu stamp n e l = record { stamp = stamp; number = record { 0 = n }; elapsed = record { 0 = e }; length = record { 0 = l } }
-
 -- the demand
 pub record Demand2 : Type 0 where
   -- what is accepted has both checks, and says what its octets say at their places
   pub checked : (s : List ℕ) (r : Read) → ReadAs s r → (readPaper r .kind ≡ 0 → ⊥) → BothChecks s × (r ≡ said (typeOf s) s)
-  -- request 2: of an IP packet and at most four octets behind it the packet is payload, whoever wrote the frame
-  pub extension-dropped : (s p x : List ℕ) (d : DataPdu) → ReadAs s (Data d) → drop dataHead s ≡ p ++ x → IpPacket p → length x ≤ 4
-      → (d .length .0 ≡ length p) × (payloadOf s ≡ p)
+  -- the payload of an accepted data PDU: so many octets as it says, "from the frame's twelfth octet"
+  pub payload-told : (s : List ℕ) (d : DataPdu) → ReadAs s (Data d) → payloadOf s ≡ take (d .length .0) (drop dataHead s)
+  -- request 2: of an IP packet with one to four octets behind it the packet
+  pub extension-dropped : (s : List ℕ) (d : DataPdu) (n : ℕ) → ReadAs s (Data d) → Extended (drop dataHead s) n → d .length .0 ≡ n
   -- and nothing else is dropped
-  pub nothing-else : (s : List ℕ) (d : DataPdu) → ReadAs s (Data d)
-      → (payloadOf s ≡ drop dataHead s) ⊎ Extended (drop dataHead s) (d .length .0)
-  -- "Reading what we wrote gives back what went in": of a payload, what the rule keeps
+  pub nothing-else : (s : List ℕ) (d : DataPdu) → ReadAs s (Data d) → (length s ≡ dataHead + d .length .0) ⊎ Extended (drop dataHead s) (d .length .0)
+  -- "refusal 6 judges the payload after dropping": not what is there, which may be 4,099 octets
+  pub extended-back : (stamp n e : ℕ) (p x : List ℕ) (r : Read) → stamp ≤ lastStamp → length p ≤ mostPayload → dataWrong n e ≡ false → IpPacket p → length x ≤ 4
+      → ReadAs (dataFrame stamp n e (p ++ x)) r → r ≡ Data (dataPdu stamp n e (length p))
+  -- and where that is above 4,095 octets it applies, whatever the payload check
+  pub too-long : (s : List ℕ) (r : Read) → typeOf s ≡ 1 → dataHead ≤ length s → headerWrong shortControl s ≡ false → stampOf s ≤ lastStamp
+      → mostPayload < payloadLength s → ReadAs s r → r ≡ refuse sizeWrong
+  -- "Reading what we wrote gives back what went in": all of the payload stands in the frame, and what the rule keeps of it is read
   pub data-back : (stamp n e : ℕ) (p old : List ℕ) (k : ℕ) (new : List ℕ) (r : Read)
       → Wrote (writeData stamp n e (length p) (length old)) (dataFrame stamp n e p) old (Done k) new → ReadAs (take k new) r
-      → (r ≡ Data (dataPdu stamp n e (payloadKept p))) × (payloadOf (take k new) ≡ take (payloadKept p) p)
+      → (r ≡ Data (dataPdu stamp n e (payloadKept p))) × (drop dataHead (take k new) ≡ p)
   -- which is all of it with "payloads from which this rule drops nothing"
   pub data-back-whole : (stamp n e : ℕ) (p old : List ℕ) (k : ℕ) (new : List ℕ) (r : Read) → AllPayload p
       → Wrote (writeData stamp n e (length p) (length old)) (dataFrame stamp n e p) old (Done k) new → ReadAs (take k new) r

@@ -9,7 +9,7 @@ use Rattle.checks.specs.Check.{divide, lowDigits, bitsOf, check}
 use Rattle.frame.specs.declared.DataPdu.{DataPdu}
 use Rattle.frame.specs.declared.ClosingPdu.{ClosingPdu}
 use Rattle.frame.specs.declared.Read.the-variants.{Closing, Data, ClosingWithLengths}
-use Rattle.frame.specs.Layout.{lengthAt, sumLengths}
+use Rattle.frame.specs.Layout.{dataPdu, lengthAt, sumLengths}
 use Rattle.frame.specs.Payloads.{startsV4, startsV6, payloadKept}
 use Rattle.frame.specs.Counts.{dataWrong, closingWrong, lengthsWrong}
 use Rattle.frame.specs.Reading.{refuseCheck, readFrame, readHeaded, readBody}
@@ -17,7 +17,7 @@ use Rattle.frame.specs.Writing.{dataFrame, closingFrame, lengthsFrame, p
 
 -- a first packet with a payload of so many octets
 abbrev pub first : ℕ → DataPdu
-first length = record { stamp = 0; number = record { 0 = 0 }; elapsed = record { 0 = 0 }; length = record { 0 = length } }
+first length = dataPdu 0 0 0 length
 
 -- a closing after so many packets of one octet, which are the period's only ones
 abbrev pub after : ℕ → ClosingPdu

@@ -9,14 +9,14 @@ use lib.ListN.{length, take}
 use borrow.Author.Tests.{eqb-false, not-true, le-ltb, ne-eqb}
 use Rattle.units.specs.declared.Refusal.{Refusal}
 use Rattle.units.specs.Limits.{lastStamp}
-use Rattle.units.specs.Refusals.{refusing, refusingCheck, tellsChecks, headerCheckWrong, payloadCheckWrong}
+use Rattle.units.specs.Refusals.{refusing, refusingCheck, tellsChecks, headerCheckWrong, sizeWrong, payloadCheckWrong}
 use Rattle.fields.proofs.Choosing.{whichever, tested}
 use Rattle.checks.specs.Check.{headerCheck, payloadCheck}
 use Rattle.frame.specs.declared.Read.{Read}
 use Rattle.frame.specs.declared.Read.the-variants.{Refused}
 use Rattle.frame.specs.Layout.{typeOf, stampOf, control, least, headerCheckIn, payloadCheckIn, payloadPart}
 use Rattle.frame.specs.Paper.{readPaper}
-use Rattle.frame.specs.Reading.{refuseHeader, refusePayload, headerWrong, lengthWrong, checkWrong, countsWrong, said, readBody, readHeaded, readFrame}
+use Rattle.frame.specs.Reading.{refuse, refuseHeader, refusePayload, headerWrong, lengthWrong, checkWrong, countsWrong, said, readBody, readHeaded, readFrame}
 use Rattle.frame.specs.WrongChecks.{WrongCheck, ChecksTold}
 use Rattle.frame.proofs.Accepted.{least-ge}
 
@@ -126,6 +126,11 @@ module _ (s : List ℕ) (two : typeOf s ≡ 2 → ⊥) (known : typeOf s ≤ 3) 
   pub header-refused : headerWrong (control (typeOf s)) s ≡ true → readFrame s ≡ refuseHeader (control (typeOf s)) s
   unfolding readHeaded
   header-refused w = rw headed (simp w)
+
+  -- a wrong size likewise, whatever the payload check
+  pub size-refused : headerWrong (control (typeOf s)) s ≡ false → stampOf s ≤ lastStamp → lengthWrong (typeOf s) s ≡ true → readFrame s ≡ refuse sizeWrong
+  unfolding readHeaded readBody
+  size-refused h p l = rw headed (simp (h, le-ltb lastStamp (stampOf s) p, l))
 
   pub payload-refused : headerWrong (control (typeOf s)) s ≡ false → stampOf s ≤ lastStamp → lengthWrong (typeOf s) s ≡ false → checkWrong (typeOf s) s ≡ true
       → readFrame s ≡ refusePayload (control (typeOf s)) s

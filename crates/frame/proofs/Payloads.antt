@@ -1,12 +1,12 @@
 -- What the rule of a Type 1 payload keeps: of an IP packet with at most four octets behind it the packet, and of all else everything.
 -- Assumes nothing.
-use Prim.Native.Nat.{ℕ, _+_, _-_, _*_, _≤_, _<_}
+use Prim.Native.Nat.{ℕ, _+_, _*_, _≤_, _<_}
 use native.Mathlib.Omega.{arith}
 use mathlib.Core.Path.{_≡_, refl, sym, ap, _∙_}
-use mathlib.Core.Logic.{_⊎_, inl, inr}
+use mathlib.Core.Logic.{_⊎_, inl, inr, ⊎-elim}
 use mathlib.Core.Bool.{true, false, _&&_}
 use mathlib.Core.List.{List, _++_}
-use lib.ListN.{length, take, drop, length-append, length-drop}
+use lib.ListN.{length, take, length-append, length-drop}
 use lib.Seq.{getD-take, length-take-le, take-all, take-at}
 use lib.Dec.{leb, ltb, eqb}
 use borrow.Author.Tests.{ltb-true, ltb-false, leb-true, le-leb, lt-leb, eqb-true, eq-eqb, ne-eqb}
@@ -17,30 +17,6 @@ use Rattle.fields.proofs.Tests.{either, both, and-yes, and-false}
 use Rattle.frame.specs.Payloads.{versionOf, ihlOf, statedV4, statedV6, startsV4, startsV6, keptOf, payloadKept, AllPayload, IpPacket, Extended}
 use Rattle.frame.specs.Payloads.IpPacket.{v4, v6}
 use Rattle.frame.specs.Layout.{payloadPart, payloadLength, payloadOf}
-
--- no more than is there, and at most four octets less
-
-kept-within : (l n : ℕ) → (keptOf l n ≤ l) × (l ≤ keptOf l n + 4)
-kept-within l n =
-    tested (λ m. (m ≤ l) × (l ≤ m + 4)) n l (leb n l && leb l (n + 4))
-    (λ t. let b = both (leb n l) (leb l (n + 4)) t in (leb-true n l (b .0), leb-true l (n + 4) (b .1)))
-    (λ _. (omega arith, omega arith))
-
-within : (p : List ℕ) → (payloadKept p ≤ length p) × (length p ≤ payloadKept p + 4)
-unfolding payloadKept
-within p =
-    tested (λ m. (m ≤ length p) × (length p ≤ m + 4)) _ _ (startsV4 p)
-    (λ _. kept-within (length p) (statedV4 p))
-    (λ _.
-    tested (λ m. (m ≤ length p) × (length p ≤ m + 4)) _ _ (startsV6 p)
-    (λ _. kept-within (length p) (statedV6 p))
-    (λ _. (omega arith, omega arith)))
-
-pub payload-most : (p : List ℕ) → payloadKept p ≤ length p
-payload-most p = within p .0
-
-pub payload-least : (p : List ℕ) → length p ≤ payloadKept p + 4
-payload-least p = within p .1
 
 -- what a header that stands in front says
 
@@ -113,15 +89,15 @@ by-none : (p : List ℕ) → startsV4 p ≡ false → startsV6 p ≡ false → A
 unfolding payloadKept
 by-none p f g = simp (f, g)
 
--- where "all of it is payload as before": the header "is incomplete" in either version
-pub short-kept : (p : List ℕ) → length p < 20 → AllPayload p
+-- where "all of it is payload as before": the header is "incomplete" in either version
+pub incomplete-kept : (p : List ℕ) → length p < 20 → AllPayload p
 unfolding startsV4 startsV6
-short-kept p h = by-none p (rw (lt-leb 20 (length p) h)) (rw (lt-leb 40 (length p) (omega arith)))
+incomplete-kept p h = by-none p (rw (lt-leb 20 (length p) h)) (rw (lt-leb 40 (length p) (omega arith)))
 
 -- or in IPv6
-pub six-short-kept : (p : List ℕ) → versionOf p ≡ 6 → length p < 40 → AllPayload p
+pub six-incomplete-kept : (p : List ℕ) → versionOf p ≡ 6 → length p < 40 → AllPayload p
 unfolding startsV6
-six-short-kept p six h = by-none p (six-only p six) (rw (lt-leb 40 (length p) h))
+six-incomplete-kept p six h = by-none p (six-only p six) (rw (lt-leb 40 (length p) h))
 
 -- "has another version"
 pub other-kept : (p : List ℕ) → (versionOf p ≡ 4 → ⊥) → (versionOf p ≡ 6 → ⊥) → AllPayload p
@@ -192,22 +168,22 @@ packet-kept p i = packet-in-front p (length p) (omega arith) (rw (take-all (leng
 
 -- and nothing else is ever dropped
 
--- n octets were stated: no less than are there, or up to four less
-abbrev Less : ℕ → ℕ → ℕ → Type 0
-Less l n m = (m ≡ l) ⊎ ((m ≡ n) × (n < l) × (l ≤ n + 4))
+-- of l octets that are there, n of them stated, m are kept: all, or the n, which are one to four less
+abbrev AllOrStated : ℕ → ℕ → ℕ → Type 0
+AllOrStated l n m = (m ≡ l) ⊎ ((m ≡ n) × (n < l) × (l ≤ n + 4))
 
-kept-or-less : (l n : ℕ) → Less l n (keptOf l n)
-kept-or-less l n =
-    tested (Less l n) n l (leb n l && leb l (n + 4))
+all-or-stated : (l n : ℕ) → AllOrStated l n (keptOf l n)
+all-or-stated l n =
+    tested (AllOrStated l n) n l (leb n l && leb l (n + 4))
     (λ t. let b = both (leb n l) (leb l (n + 4)) t in which (either (ltb n l)) (leb-true n l (b .0)) (leb-true l (n + 4) (b .1)))
     (λ _. inl refl)
   where
-    which : (ltb n l ≡ true) ⊎ (ltb n l ≡ false) → n ≤ l → l ≤ n + 4 → Less l n n
+    which : (ltb n l ≡ true) ⊎ (ltb n l ≡ false) → n ≤ l → l ≤ n + 4 → AllOrStated l n n
     which (inl t) h g = inr (refl, ltb-true n l t, g)
     which (inr f) h g = inl (omega (arith, ltb-false n l f, h))
 
 module _ (p : List ℕ) (n : ℕ) where
-  behind-v4 : startsV4 p ≡ true → Less (length p) (statedV4 p) n → (n ≡ length p) ⊎ Extended p n
+  behind-v4 : startsV4 p ≡ true → AllOrStated (length p) (statedV4 p) n → (n ≡ length p) ⊎ Extended p n
   behind-v4 t (inl e) = inl e
   behind-v4 t (inr r) =
       let says = says-v4 p t in
@@ -219,7 +195,7 @@ module _ (p : List ℕ) (n : ℕ) where
         few = omega (arith, r .0, r .1);
       })
 
-  behind-v6 : startsV6 p ≡ true → Less (length p) (statedV6 p) n → (n ≡ length p) ⊎ Extended p n
+  behind-v6 : startsV6 p ≡ true → AllOrStated (length p) (statedV6 p) n → (n ≡ length p) ⊎ Extended p n
   behind-v6 t (inl e) = inl e
   behind-v6 t (inr r) =
       let fits : n ≤ length p = omega (arith, r .0, r .1) in
@@ -234,15 +210,30 @@ pub only-dropped : (p : List ℕ) → AllPayload p ⊎ Extended p (payloadKept p
 unfolding payloadKept
 only-dropped p =
     tested (λ (m : ℕ). (m ≡ length p) ⊎ Extended p m) _ _ (startsV4 p)
-    (λ t. behind-v4 p _ t (kept-or-less (length p) (statedV4 p)))
+    (λ t. behind-v4 p _ t (all-or-stated (length p) (statedV4 p)))
     (λ _.
     tested (λ (m : ℕ). (m ≡ length p) ⊎ Extended p m) _ _ (startsV6 p)
-    (λ t. behind-v6 p _ t (kept-or-less (length p) (statedV6 p)))
+    (λ t. behind-v6 p _ t (all-or-stated (length p) (statedV6 p)))
     (λ _. inl refl))
 
--- and it is always dropped
+-- and it always is
 pub always-dropped : (p : List ℕ) (n : ℕ) → Extended p n → payloadKept p ≡ n
 always-dropped p n x = let l = x .some in packet-in-front p n (omega (arith, l)) (x .packet) (x .few)
+
+-- so no more is kept than is there, and at most four octets less
+
+within : (p : List ℕ) → (payloadKept p ≤ length p) × (length p ≤ payloadKept p + 4)
+within p =
+    ⊎-elim
+    (λ (all : AllPayload p). (omega (arith, all), omega (arith, all)))
+    (λ (x : Extended p (payloadKept p)). (omega (arith, x .some), x .few))
+    (only-dropped p)
+
+pub payload-most : (p : List ℕ) → payloadKept p ≤ length p
+payload-most p = within p .0
+
+pub payload-least : (p : List ℕ) → length p ≤ payloadKept p + 4
+payload-least p = within p .1
 
 -- the payload of a Type 1 frame: within the frame, and as long as is said
 

@@ -6,9 +6,8 @@ use mathlib.Core.Bool.{false}
 use native.Mathlib.Omega.{arith}
 use lib.ListN.{length, getD, take, drop, length-append}
 use lib.Seq.{take-at, drop-at, getD-at}
-use borrow.Author.Tests.{lt-ltb, le-ltb, eq-eqb, ne-eqb}
+use borrow.Author.Tests.{le-ltb, eq-eqb}
 use Rattle.units.specs.Limits.{mostPayload, lastStamp}
-use Rattle.units.specs.Refusals.{sizeWrong}
 use Rattle.fields.specs.Numbers.{be, octets}
 use Rattle.fields.proofs.ReadAgain.{be-at, length-octets}
 use Rattle.checks.specs.Check.{headerCheck, payloadCheck}
@@ -16,10 +15,10 @@ use Rattle.checks.proofs.Rows.{check-lt}
 use Rattle.checks.proofs.ShortSums.{header, payload}
 use Rattle.frame.specs.declared.ClosingPdu.{ClosingPdu}
 use Rattle.frame.specs.declared.Read.the-variants.{Closing, Data}
-use Rattle.frame.specs.Layout.{typeOf, least, stampOf, numberOf, elapsedOf, payloadPart, payloadOf, closingOf}
+use Rattle.frame.specs.Layout.{stampOf, numberOf, elapsedOf, payloadPart, payloadOf, dataPdu, closingOf}
 use Rattle.frame.specs.Payloads.{payloadKept, AllPayload, IpPacket}
 use Rattle.frame.specs.Counts.{dataWrong}
-use Rattle.frame.specs.Reading.{refuse, headerWrong, payloadWrong, readBody, readHeaded, readFrame}
+use Rattle.frame.specs.Reading.{readFrame, headerWrong, payloadWrong}
 use Rattle.frame.specs.Writing.{controlPart, closingControl, sealed, dataFrame, closingFrame}
 use Rattle.frame.proofs.Accepted.{Good, read-good}
 use Rattle.frame.proofs.Fitting.{Fits}
@@ -54,7 +53,15 @@ sealed-checked c p k e =
 
 -- Type 1
 
-module _ (stamp n e : ℕ) (p : List ℕ) (st : stamp ≤ lastStamp) where
+-- all of a payload stands behind the checks, and what the rule keeps of it is the frame's payload
+pub part-back : (stamp n e : ℕ) (p : List ℕ) → payloadPart 9 (dataFrame stamp n e p) ≡ p
+unfolding octets dataFrame
+part-back stamp n e p = refl
+
+pub payload-back : (stamp n e : ℕ) (p : List ℕ) → payloadOf (dataFrame stamp n e p) ≡ take (payloadKept p) p
+payload-back stamp n e p = rw (part-back stamp n e p)
+
+module _ (stamp n e : ℕ) (p : List ℕ) (st : stamp ≤ lastStamp) (sz : payloadKept p ≤ mostPayload) (w : dataWrong n e ≡ false) where
   abbrev s : List ℕ
   s = dataFrame stamp n e p
 
@@ -62,67 +69,44 @@ module _ (stamp n e : ℕ) (p : List ℕ) (st : stamp ≤ lastStamp) where
   unfolding octets dataFrame
   data-stamp = be-at 2 stamp (octets 1 16) (octets 2 n ++ octets 4 e ++ octets 2 (both (controlPart 1 stamp n e) p) ++ p) (omega arith)
 
-  -- all of the payload stands behind the checks
-  part-back : payloadPart 9 s ≡ p
+  data-number : numberOf s ≡ n
   unfolding octets dataFrame
-  part-back = refl
+  data-number = be-at 2 n (octets 1 16 ++ octets 2 stamp) (octets 4 e ++ octets 2 (both (controlPart 1 stamp n e) p) ++ p) (omega (arith, data-right n e w))
 
-  -- of which a data frame gives back what the rule keeps
-  pub payload-back : payloadOf s ≡ take (payloadKept p) p
-  payload-back = rw part-back
+  data-elapsed : elapsedOf s ≡ e
+  unfolding octets dataFrame
+  data-elapsed = be-at 4 e (octets 1 16 ++ octets 2 stamp ++ octets 2 n) (octets 2 (both (controlPart 1 stamp n e) p) ++ p) (omega (arith, data-right n e w))
 
-  -- "refusal 6 judges the payload after dropping": above 4,095 octets
-  pub data-too-long : mostPayload < payloadKept p → readFrame s ≡ refuse sizeWrong
-  unfolding octets dataFrame readFrame readHeaded readBody
-  data-too-long h =
-      simp (
-        ne-eqb (length s) 0 (λ z. omega (arith, z)),
-        le-ltb (length s) (least (typeOf s)) (omega arith),
-        sealed-headed (controlPart 1 stamp n e) p 9 refl,
-        le-ltb lastStamp (stampOf s) (rw data-stamp st),
-        part-back,
-        lt-ltb mostPayload (payloadKept p) h,
-      )
+  data-good : Good s
+  unfolding octets dataFrame
+  data-good =
+      record {
+        some = omega arith;
+        not-two = λ h. omega (arith, h);
+        known = omega arith;
+        long = omega arith;
+        headed = sealed-headed (controlPart 1 stamp n e) p 9 refl;
+        stamped = rw data-stamp st;
+        sized = rw (part-back stamp n e p) (le-ltb mostPayload (payloadKept p) sz);
+        checked = sealed-checked (controlPart 1 stamp n e) p 9 refl;
+        counted = rw (data-number, data-elapsed) w;
+      }
 
-  module _ (sz : payloadKept p ≤ mostPayload) (w : dataWrong n e ≡ false) where
-    data-number : numberOf s ≡ n
-    unfolding octets dataFrame
-    data-number = be-at 2 n (octets 1 16 ++ octets 2 stamp) (octets 4 e ++ octets 2 (both (controlPart 1 stamp n e) p) ++ p) (omega (arith, data-right n e w))
+  -- a data frame gives back the fields that it was written from, and how much of its payload the rule keeps
+  pub data-back : readFrame s ≡ Data (dataPdu stamp n e (payloadKept p))
+  unfolding octets dataFrame
+  data-back =
+      read-good s data-good ∙ rw (data-stamp, data-number, data-elapsed, part-back stamp n e p)
 
-    data-elapsed : elapsedOf s ≡ e
-    unfolding octets dataFrame
-    data-elapsed = be-at 4 e (octets 1 16 ++ octets 2 stamp ++ octets 2 n) (octets 2 (both (controlPart 1 stamp n e) p) ++ p) (omega (arith, data-right n e w))
-
-    data-good : Good s
-    unfolding octets dataFrame
-    data-good =
-        record {
-          some = omega arith;
-          not-two = λ h. omega (arith, h);
-          known = omega arith;
-          long = omega arith;
-          headed = sealed-headed (controlPart 1 stamp n e) p 9 refl;
-          stamped = rw data-stamp st;
-          sized = rw part-back (le-ltb mostPayload (payloadKept p) sz);
-          checked = sealed-checked (controlPart 1 stamp n e) p 9 refl;
-          counted = rw (data-number, data-elapsed) w;
-        }
-
-    -- up to that, the fields that it was written from, and how much of its payload the rule keeps
-    pub data-back : readFrame s ≡ Data (record { stamp = stamp; number = record { 0 = n }; elapsed = record { 0 = e }; length = record { 0 = payloadKept p } })
-    unfolding octets dataFrame
-    data-back =
-        read-good s data-good ∙ rw (data-stamp, data-number, data-elapsed, part-back)
-
--- a payload that can be written, and from which the rule drops nothing, with all its octets
+-- a payload that can be written, and from which the rule drops nothing, comes back whole
 pub data-back-whole : (stamp n e : ℕ) (p : List ℕ) → stamp ≤ lastStamp → length p ≤ mostPayload → dataWrong n e ≡ false → AllPayload p
-    → readFrame (dataFrame stamp n e p) ≡ Data (record { stamp = stamp; number = record { 0 = n }; elapsed = record { 0 = e }; length = record { 0 = length p } })
+    → readFrame (dataFrame stamp n e p) ≡ Data (dataPdu stamp n e (length p))
 data-back-whole stamp n e p st sz w all = data-back stamp n e p st (rw all sz) w ∙ rw all
 
--- an IP packet with an extension of at most four octets, without it, also where both together are more than 4,095 octets
-pub extension-dropped : (stamp n e : ℕ) (p x : List ℕ) → stamp ≤ lastStamp → length p ≤ mostPayload → dataWrong n e ≡ false → IpPacket p → length x ≤ 4
-    → readFrame (dataFrame stamp n e (p ++ x)) ≡ Data (record { stamp = stamp; number = record { 0 = n }; elapsed = record { 0 = e }; length = record { 0 = length p } })
-extension-dropped stamp n e p x st sz w i few =
+-- of an IP packet and an extension of at most four octets the packet comes back, also where both together have more than 4,095 octets
+pub extended-back : (stamp n e : ℕ) (p x : List ℕ) → stamp ≤ lastStamp → length p ≤ mostPayload → dataWrong n e ≡ false → IpPacket p → length x ≤ 4
+    → readFrame (dataFrame stamp n e (p ++ x)) ≡ Data (dataPdu stamp n e (length p))
+extended-back stamp n e p x st sz w i few =
     let d = dropped p x i few in
     data-back stamp n e (p ++ x) st (rw d sz) w ∙ rw d
 

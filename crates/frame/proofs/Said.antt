@@ -2,7 +2,7 @@
 use Prim.Native.Nat.{ℕ, _+_, _-_, _*_, _≤_, _<_}
 use mathlib.Core.Path.{_≡_, refl, sym, ap, _∙_}
 use mathlib.Core.List.{List}
-use mathlib.Core.Bool.{Bool, true, false, not, _||_, true≢false}
+use mathlib.Core.Bool.{false, not}
 use native.Mathlib.Omega.{arith}
 use lib.ListN.{length, getD, take, drop}
 use lib.Dec.{ltb, leb, eqb}
@@ -70,14 +70,14 @@ data-said s d e =
     let q = read-data s d e .2 in
     rw q at (data-said-of s (e ∙ ap Data (sym q)))
 
--- the part of the frame that code hands on is the payload, and its length is the one that was read
-pub handed-on : (s : List ℕ) (d : DataPdu) → DataSaid s d → take (11 + d .length .0 - 11) (drop 11 s) ≡ payloadOf s
-handed-on s d h =
+-- the part that code hands on, from 11 to 11 and the length that was read, is the payload, and has that length
+pub payload-handed : (s : List ℕ) (d : DataPdu) → DataSaid s d → take (11 + d .length .0 - 11) (drop 11 s) ≡ payloadOf s
+payload-handed s d h =
     let e : 11 + d .length .0 - 11 ≡ payloadLength s = omega (arith, ap (λ (x : DataPdu). x .length .0) (h .fields)) in
     rw e
 
-pub handed-length : (s : List ℕ) (d : DataPdu) → DataSaid s d → d .length .0 ≡ length (take (11 + d .length .0 - 11) (drop 11 s))
-handed-length s d h = ap (λ (x : DataPdu). x .length .0) (h .fields) ∙ sym (payload-length s) ∙ ap length (sym (handed-on s d h))
+pub length-handed : (s : List ℕ) (d : DataPdu) → DataSaid s d → d .length .0 ≡ length (take (11 + d .length .0 - 11) (drop 11 s))
+length-handed s d h = ap (λ (x : DataPdu). x .length .0) (h .fields) ∙ sym (payload-length s) ∙ ap length (sym (payload-handed s d h))
 
 -- an accepted closing PDU, of Type 0 or 3
 pub record ClosingSaid (s : List ℕ) (c : ClosingPdu) : Type 0 where

@@ -16,7 +16,7 @@ use Rattle.fields.proofs.Laying.{take-front}
 use Rattle.frame.specs.declared.ClosingPdu.{ClosingPdu}
 use Rattle.frame.specs.declared.Read.the-variants.{Closing, Data, ClosingWithLengths}
 use Rattle.frame.specs.declared.Written.the-variants.{Done}
-use Rattle.frame.specs.Layout.{filled, lengthsOf}
+use Rattle.frame.specs.Layout.{payloadPart, dataPdu, filled, lengthsOf}
 use Rattle.frame.specs.Payloads.{payloadKept, AllPayload}
 use Rattle.frame.specs.Counts.{dataWrong, givenWrong, listWrong}
 use Rattle.frame.specs.Reading.{readFrame}
@@ -24,7 +24,7 @@ use Rattle.frame.specs.Writing.{dataFrame, closingFrame, lengthsFrame, r
 use Rattle.frame.proofs.Fitting.{given-fits, length-packed}
 use Rattle.frame.proofs.LengthsBack.{lengths-back, list-back}
 use Rattle.frame.proofs.Payloads.{payload-most}
-use Rattle.frame.proofs.ReadBack.{data-back, closing-back}
+use Rattle.frame.proofs.ReadBack.{part-back, data-back, closing-back}
 
 -- how many octets each frame has
 pub data-length : (stamp n e : ℕ) (p : List ℕ) → length (dataFrame stamp n e p) ≡ 11 + length p
@@ -70,16 +70,21 @@ module _ (stamp n e room k : ℕ) (p old : List ℕ) (h : writeData stamp n e (l
       record { stamped = ltb-false lastStamp stamp (p1 .0); short = ltb-false mostPayload (length p) (p2 .0); counted = p3 .0; size = done (p4 .1) }
 
   pub data-went-in : readFrame (take k (after (Done k) (dataFrame stamp n e p) old))
-      ≡ Data (record { stamp = stamp; number = record { 0 = n }; elapsed = record { 0 = e }; length = record { 0 = payloadKept p } })
+      ≡ Data (dataPdu stamp n e (payloadKept p))
   data-went-in =
       let a = data-accepted in
       ap readFrame (written-in-front (dataFrame stamp n e p) old k (data-length stamp n e p ∙ a .size))
       ∙ data-back stamp n e p (a .stamped) (let m = payload-most p in let z = a .short in omega (arith, m, z)) (a .counted)
 
-  -- where the rule drops nothing from the payload, its length too
+  -- with the payload's own length, where the rule drops nothing from it
   pub data-went-in-whole : AllPayload p → readFrame (take k (after (Done k) (dataFrame stamp n e p) old))
-      ≡ Data (record { stamp = stamp; number = record { 0 = n }; elapsed = record { 0 = e }; length = record { 0 = length p } })
+      ≡ Data (dataPdu stamp n e (length p))
   data-went-in-whole all = data-went-in ∙ rw all
+
+  -- and all of the payload stands there, also what is dropped when it is read
+  pub data-there : payloadPart 9 (take k (after (Done k) (dataFrame stamp n e p) old)) ≡ p
+  data-there =
+      ap (payloadPart 9) (written-in-front (dataFrame stamp n e p) old k (data-length stamp n e p ∙ data-accepted .size)) ∙ part-back stamp n e p
 
 -- Type 0
 module _ (c : ClosingPdu) (room k : ℕ) (old : List ℕ) (h : writeClosing c room ≡ Done k) where

@@ -26,7 +26,8 @@ pub record Plain (s : List ℕ) : Type 0 where
   pub octet : (i : ℕ) → getD s i 0 < 256
   pub spare : getD s 0 0 % 16 ≡ 0
 
-equal : (a b : ℕ) → not (eqb a b) ≡ false → a ≡ b
+-- a test of two numbers that agreed
+pub equal : (a b : ℕ) → not (eqb a b) ≡ false → a ≡ b
 equal a b e = eqb-true a b (not-false (eqb a b) e)
 
 -- the next part of a list behind a first part

@@ -89,15 +89,13 @@ unfoldable pub lengthsOf : List ℕ → ℕ → ℕ → List ℕ
 lengthsOf s i zero = []
 lengthsOf s i (suc n) = lengthAt s i ∷ lengthsOf s (suc i) n
 
--- what a data PDU says: the fields "All types" have, and the payload's length
+-- a data PDU: the fields "All types" have, and the payload's length
+abbrev pub dataPdu : ℕ → ℕ → ℕ → ℕ → DataPdu
+dataPdu stamp n e l = record { stamp = stamp; number = record { 0 = n }; elapsed = record { 0 = e }; length = record { 0 = l } }
+
+-- what a Type 1 frame says
 abbrev pub dataOf : List ℕ → DataPdu
-dataOf s =
-    record {
-      stamp = stampOf s;
-      number = record { 0 = numberOf s };
-      elapsed = record { 0 = elapsedOf s };
-      length = record { 0 = payloadLength s };
-    }
+dataOf s = dataPdu (stampOf s) (numberOf s) (elapsedOf s) (payloadLength s)
 
 -- what a closing PDU (Type 0 or 3) says: "Types 0 and 3 go on" with the totals; an extension is "dropped when read"
 abbrev pub closingOf : List ℕ → ClosingPdu

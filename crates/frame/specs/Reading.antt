@@ -27,7 +27,7 @@ refuseCheck n found worked = Refused (refusingCheck n found worked)
 abbrev pub headerWrong : ℕ → List ℕ → Bool
 headerWrong n s = not (eqb (headerCheck (take n s)) (headerCheckIn n s))
 
--- "the payload check the whole payload part with padding and extension"
+-- "the payload check the whole payload part with padding and extension"; in Type 1 too "The check still covers everything" (request 2)
 abbrev pub payloadWrong : ℕ → List ℕ → Bool
 payloadWrong n s = not (eqb (payloadCheck (payloadPart n s)) (payloadCheckIn n s))
 
@@ -39,7 +39,8 @@ refuseHeader n s = refuseCheck headerCheckWrong (headerCheckIn n s) (headerCheck
 abbrev pub refusePayload : ℕ → List ℕ → Read
 refusePayload n s = refuseCheck payloadCheckWrong (payloadCheckIn n s) (payloadCheck (payloadPart n s))
 
--- refusal 6: "Type 0 not 18 octets; Type 1 payload above 4,095; Type 3 not 19+W to 19+W+4"
+-- refusal 6: "Type 0 not 18 octets; Type 1 payload above 4,095; Type 3 not 19+W to 19+W+4"; in Type 1 it "judges the payload after
+-- dropping" (request 2)
 abbrev pub lengthWrong : ℕ → List ℕ → Bool
 lengthWrong zero s = not (eqb (length s) closingSize)
 lengthWrong (suc zero) s = ltb mostPayload (payloadLength s)

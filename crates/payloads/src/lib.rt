@@ -4,7 +4,7 @@ ghost use Prim.Native.Nat.{_≤_};
 ghost use lib.ListN.{length};
 ghost use Rattle.frame.specs.Payloads.{versionOf, keptOf, payloadKept};
 
-// Of l octets that are there with n stated.
+// How many of l octets are kept, where n are stated: at most 65,535 and the 40 of an IPv6 header.
 fn kept_of(l: u64, n: u64) -> u64
     requires { ⌜ n ≤ 65575 ⌝ }
     ensures { λ r. ⌜ r ≡ keptOf l n ⌝ }
@@ -18,7 +18,7 @@ fn kept_of(l: u64, n: u64) -> u64
     n
 }
 
-// By an IPv4 header, whose first octet has its length in words of four octets.
+// By an IPv4 header. The lower half of its first octet is its length in words of four octets.
 fn kept_by_v4(part: &[u8]) -> u64
     requires { ⌜ (20 ≤ length (now part)) × (versionOf (now part) ≡ 4) ⌝ }
     ensures { λ r. ⌜ r ≡ payloadKept (now (part .entry)) ⌝ }
@@ -36,7 +36,7 @@ fn kept_by_v4(part: &[u8]) -> u64
 
 // By an IPv6 header.
 fn kept_by_v6(part: &[u8]) -> u64
-    requires { ⌜ (20 ≤ length (now part)) × (versionOf (now part) ≡ 6) ⌝ }
+    requires { ⌜ versionOf (now part) ≡ 6 ⌝ }
     ensures { λ r. ⌜ r ≡ payloadKept (now (part .entry)) ⌝ }
 {
     if part.len() < 40 {

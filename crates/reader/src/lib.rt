@@ -71,7 +71,7 @@ fn read_closing(frame: &[u8]) -> Read
     Read::Closing(c)
 }
 
-// Type 1. The check is that of the whole part from the twelfth octet to the end; of that part the payload may be less.
+// Type 1. The check covers the whole part from the twelfth octet to the end; the payload may be less.
 fn read_data(frame: &[u8]) -> Read
     requires { ⌜ dataHead ≤ length (now frame) ⌝ }
     ensures { λ r. ⌜ r ≡ readBody 1 (now (frame .entry)) ⌝ }

@@ -7,7 +7,7 @@ use lib.ListN.{length, take}
 use Rattle.frame.specs.declared.Read.the-variants.{Closing, Data, ClosingWithLengths}
 use Rattle.frame.specs.declared.Written.{Written}
 use Rattle.frame.specs.declared.Written.the-variants.{Done, Refused}
-use Rattle.frame.specs.Layout.{lengthsOf}
+use Rattle.frame.specs.Layout.{dataPdu, lengthsOf}
 use Rattle.frame.specs.Payloads.{payloadKept, AllPayload}
 use Rattle.frame.specs.Reading.{readFrame}
 use Rattle.frame.specs.Writing.{dataFrame, closingFrame, lengthsFrame, after, writeLengths}
@@ -23,7 +23,7 @@ use Rattle.sender.proofs.Written.{data-written, closing-written, length
 module _ (s : Sender) (room k : ℕ) (old : List ℕ) where
   pub data-sent : (p : List ℕ) → dataCall s (length p) room .answer ≡ Done k
       → readFrame (take k (after (Done k) (dataFrame (s .stamp) (s .number .0) (s .elapsed .0) p) old))
-      ≡ Data (record { stamp = s .stamp; number = record { 0 = s .number .0 }; elapsed = record { 0 = s .elapsed .0 }; length = record { 0 = payloadKept p } })
+      ≡ Data (dataPdu (s .stamp) (s .number .0) (s .elapsed .0) (payloadKept p))
   data-sent p e =
       let q = data-goes s (length p) room k e in
       let g = q .0 in
@@ -33,7 +33,7 @@ module _ (s : Sender) (room k : ℕ) (old : List ℕ) where
   -- where the rule drops nothing from the payload, with its own length
   pub data-sent-whole : (p : List ℕ) → AllPayload p → dataCall s (length p) room .answer ≡ Done k
       → readFrame (take k (after (Done k) (dataFrame (s .stamp) (s .number .0) (s .elapsed .0) p) old))
-      ≡ Data (record { stamp = s .stamp; number = record { 0 = s .number .0 }; elapsed = record { 0 = s .elapsed .0 }; length = record { 0 = length p } })
+      ≡ Data (dataPdu (s .stamp) (s .number .0) (s .elapsed .0) (length p))
   data-sent-whole p all e = data-sent p e ∙ rw all
 
   pub closing-sent : closeCall s room .answer ≡ Done k → readFrame (take k (after (Done k) (closingFrame (closingBy s)) old)) ≡ Closing (closingBy s)

@@ -11,6 +11,7 @@ use Rattle.units.specs.Refusals.{refusing, contradiction}
 use Rattle.frame.specs.declared.DataPdu.{DataPdu}
 use Rattle.frame.specs.declared.Read.the-variants.{Data}
 use Rattle.frame.specs.Counts.{dataWrong}
+use Rattle.frame.specs.Layout.{dataPdu}
 use Rattle.frame.specs.Payloads.{payloadKept}
 use Rattle.frame.specs.Reading.{readFrame}
 use Rattle.frame.specs.Writing.{dataFrame}
@@ -30,7 +31,7 @@ use Rattle.reception.specs.Several.{answersTo}
 
 -- a data PDU of stamp 0
 abbrev pduOf : ℕ → ℕ → List ℕ → DataPdu
-pduOf n e p = record { stamp = 0; number = record { 0 = n }; elapsed = record { 0 = e }; length = record { 0 = payloadKept p } }
+pduOf n e p = dataPdu 0 n e (payloadKept p)
 
 module _ (bearer period c : ℕ) (most : c ≤ mostCapacity) (least : 3 ≤ c) where
   abbrev empty : Kept

@@ -1,5 +1,6 @@
 -- The frames of a sequence are those of our sender: of one that opened the sequence and made a data call for each payload, and of its closing
--- call. So an empty record that hears them refuses none, and depends only on which it heard. Assumes nothing.
+-- call. So an empty record that hears them, with payloads from which the rule drops nothing, refuses none, and depends only on which it
+-- heard. Assumes nothing.
 use Prim.Native.Nat.{ℕ, _+_, _≤_}
 use mathlib.Core.Path.{_≡_, refl, sym, ap, _∙_, subst}
 use mathlib.Core.Bool.{true, false}
@@ -27,18 +28,17 @@ use Rattle.sender.proofs.Undamaged.{undamaged, few-octets}
 use Rattle.reception.specs.declared.Taken.the-variants.{Done as Accepted}
 use Rattle.reception.specs.Hearing.{emptyKept}
 use Rattle.reception.specs.Several.{hearAll, answersTo}
-use Rattle.sequence.specs.Pieces.{Piece, frameOf, PieceOf, PiecesOf, AllKept, lengthsOf, SameFrames}
+use Rattle.sequence.specs.Pieces.{Piece, frameOf, PieceOf, PiecesOf, NoneDropped, lengthsOf, SameFrames}
 use Rattle.sequence.specs.Pieces.Piece.{DataOf, PlainClosing, ListedClosing}
 use Rattle.sequence.specs.Pieces.PieceOf.{with-lengths}
 use Rattle.sequence.proofs.PiecesRead.{Carried, count-is, octets-are}
 use Rattle.sequence.proofs.NeverRefused.{never-refused}
 use Rattle.sequence.proofs.OnlyWhichFrames.{only-which-frames}
 
--- a sender whose opening of a sequence was accepted, and payloads for which it has room and of which a reader keeps all
+-- a sender whose opening of a sequence was accepted, and payloads for which it has room
 pub record Opened (s : Sender) (stamp : ℕ) (ps : List (List ℕ)) : Type 0 where
   pub accepted : openCall s stamp .answer ≡ TurnDone
   pub short : Short ps
-  pub kept : AllKept ps
   pub few : countOf ps ≤ mostInSequence
   pub totals : s .packets .0 + countOf ps ≤ mostPeriodPackets
 
@@ -75,7 +75,7 @@ module _ (s : Sender) (stamp : ℕ) (ps : List (List ℕ)) (o : Opened s stamp p
   pub opened-carried : Carried stamp (s .packets .0) (s .octets .0) ps
   opened-carried =
       let b = told in
-      record { stamped = b .stamped; short = o .short; kept = o .kept; few = o .few; totals = o .totals; possible = few-octets s (undamaged s (b .whole)) }
+      record { stamped = b .stamped; short = o .short; few = o .few; totals = o .totals; possible = few-octets s (undamaged s (b .whole)) }
 
   -- the frame of its data call number k
   pub data-frame-sent : (k : ℕ) → getD (framesBy (openCall s stamp .sender) ps) k [] ≡ frameOf stamp (s .packets .0) (s .octets .0) ps (DataOf k)
@@ -133,17 +133,18 @@ module _ (s : Sender) (stamp : ℕ) (ps : List (List ℕ)) (o : Opened s stamp p
       with-lengths {ls = lengthsOf ps}
       (simp (eq-eqb (length (lengthsOf ps)) (countOf ps) (sym (count-is ps)), none-above (o .short), eq-eqb (sumOf (lengthsOf ps)) (octetsOf ps) (sym (octets-are ps))))
 
-  -- an empty record of its key that hears its frames, with room for all its packets, refuses none
-  pub sender-never-refused : (bearer period capacity : ℕ) (xs : List Piece) → capacity ≤ mostCapacity → countOf ps ≤ capacity → PiecesOf ps xs
-      → answersTo (emptyKept bearer period stamp capacity) bearer period (map (frameOf stamp (s .packets .0) (s .octets .0) ps) xs)
-      ≡ replicate (length xs) Accepted
-  sender-never-refused bearer period capacity xs fits room w =
-      never-refused bearer period stamp (s .packets .0) (s .octets .0) ps opened-carried capacity xs fits room w
+  module _ (whole : NoneDropped ps) where
+    -- an empty record of its key that hears its frames, with room for all its packets, refuses none
+    pub sender-never-refused : (bearer period capacity : ℕ) (xs : List Piece) → capacity ≤ mostCapacity → countOf ps ≤ capacity → PiecesOf ps xs
+        → answersTo (emptyKept bearer period stamp capacity) bearer period (map (frameOf stamp (s .packets .0) (s .octets .0) ps) xs)
+        ≡ replicate (length xs) Accepted
+    sender-never-refused bearer period capacity xs fits room w =
+        never-refused bearer period stamp (s .packets .0) (s .octets .0) ps opened-carried whole capacity xs fits room w
 
-  -- and is the same record after any two lists of them with the same packets and a closing in both or in neither
-  pub sender-only-which : (bearer period capacity : ℕ) (xs ys : List Piece) → capacity ≤ mostCapacity → countOf ps ≤ capacity
-      → PiecesOf ps xs → PiecesOf ps ys → SameFrames xs ys
-      → hearAll (emptyKept bearer period stamp capacity) bearer period (map (frameOf stamp (s .packets .0) (s .octets .0) ps) xs)
-      ≡ hearAll (emptyKept bearer period stamp capacity) bearer period (map (frameOf stamp (s .packets .0) (s .octets .0) ps) ys)
-  sender-only-which bearer period capacity xs ys fits room v w same =
-      only-which-frames bearer period stamp (s .packets .0) (s .octets .0) ps opened-carried capacity fits room xs ys v w same
+    -- and is the same record after any two lists of them with the same packets and a closing in both or in neither
+    pub sender-only-which : (bearer period capacity : ℕ) (xs ys : List Piece) → capacity ≤ mostCapacity → countOf ps ≤ capacity
+        → PiecesOf ps xs → PiecesOf ps ys → SameFrames xs ys
+        → hearAll (emptyKept bearer period stamp capacity) bearer period (map (frameOf stamp (s .packets .0) (s .octets .0) ps) xs)
+        ≡ hearAll (emptyKept bearer period stamp capacity) bearer period (map (frameOf stamp (s .packets .0) (s .octets .0) ps) ys)
+    sender-only-which bearer period capacity xs ys fits room v w same =
+        only-which-frames bearer period stamp (s .packets .0) (s .octets .0) ps opened-carried whole capacity fits room xs ys v w same

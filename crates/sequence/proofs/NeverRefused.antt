@@ -1,5 +1,5 @@
--- An empty record that hears frames of one sequence, with its key and within capacity, accepts every one, whatever came before it; and
--- what it then keeps is the parts that those frames are. Assumes nothing.
+-- An empty record that hears frames of one sequence, with its key and within capacity, and of payloads from which the rule drops nothing,
+-- accepts every one, whatever came before it; and what it then keeps is the parts that those frames are. Assumes nothing.
 use Prim.Native.Nat.{ℕ, _≤_, _<_}
 use mathlib.Core.Path.{_≡_, refl, sym, ap, ap₂, _∙_, subst}
 use mathlib.Core.Logic.{inl, inr}
@@ -23,7 +23,7 @@ use Rattle.reception.proofs.KeptAsHeld.{held-packet, held-empty}
 use Rattle.reception.proofs.SumsBefore.{before}
 use Rattle.reception.proofs.WhatHearingAdds.{Sound, sound-lists, key-owned, data-taken, ReadAsClosing, closing-taken}
 use Rattle.reception.specs.Several.{hearAll, answersTo}
-use Rattle.sequence.specs.Pieces.{Piece, frameOf, partOf, PieceOf, PiecesOf, lengthsOf}
+use Rattle.sequence.specs.Pieces.{Piece, frameOf, partOf, PieceOf, PiecesOf, NoneDropped, lengthsOf}
 use Rattle.sequence.specs.Pieces.Piece.{DataOf, PlainClosing, ListedClosing}
 use Rattle.sequence.specs.Pieces.PieceOf.{a-packet, a-closing, with-lengths}
 use Rattle.sequence.specs.Pieces.PiecesOf.{none, more}
@@ -45,7 +45,7 @@ pub record Hearer (bearer period stamp : ℕ) (s : List ℕ) (k : Kept) : Type 0
   pub own : otherKey (k .head) bearer period stamp ≡ false
   pub room : length s ≤ length (k .marks)
 
-module _ (bearer period stamp packets octets : ℕ) (ps : List (List ℕ)) (c : Carried stamp packets octets ps) where
+module _ (bearer period stamp packets octets : ℕ) (ps : List (List ℕ)) (c : Carried stamp packets octets ps) (whole : NoneDropped ps) where
   abbrev s : List ℕ
   s = lengthsOf ps
 
@@ -59,7 +59,7 @@ module _ (bearer period stamp packets octets : ℕ) (ps : List (List ℕ)) (c : 
   packet-taken : (k : Kept) (j : ℕ) → Hears k → j < length s → hearFrame k bearer period (octetsIn (DataOf j)) ≡ takes (keepPart k s (Packet j))
   packet-taken k j h lt =
       data-taken k bearer period (octetsIn (DataOf j)) (dataOf stamp ps j)
-      (data-read stamp packets octets ps c j (rw (length-map ps length) at lt)) (h .sound)
+      (data-read stamp packets octets ps c whole j (rw (length-map ps length) at lt)) (h .sound)
       (record {
         own = h .own;
         below = omega (arith, lt, h .room);

@@ -1,5 +1,5 @@
--- What an empty record holds after frames of one sequence depends only on which of them were heard, and so does the record itself, its
--- lists included. Assumes nothing.
+-- What an empty record holds after frames of one sequence, of payloads from which the rule drops nothing, depends only on which of them were
+-- heard, and so does the record itself, its lists included. Assumes nothing.
 use Prim.Native.Nat.{ℕ, _≤_}
 use mathlib.Core.Path.{_≡_, refl, sym, ap, _∙_, subst}
 use mathlib.Core.Bool.{cond}
@@ -17,7 +17,7 @@ use Rattle.reception.proofs.KeptAsHeld.{held-packet, held-empty, SameKey, told-
 use Rattle.reception.proofs.SumsBefore.{before}
 use Rattle.reception.proofs.WhatHearingAdds.{sound-lists, own-key}
 use Rattle.reception.specs.Several.{hearAll}
-use Rattle.sequence.specs.Pieces.{Piece, frameOf, partOf, PieceOf, PiecesOf, lengthsOf, SameFrames}
+use Rattle.sequence.specs.Pieces.{Piece, frameOf, partOf, PieceOf, PiecesOf, NoneDropped, lengthsOf, SameFrames}
 use Rattle.sequence.specs.Pieces.PieceOf.{a-packet, a-closing, with-lengths}
 use Rattle.sequence.specs.Pieces.PiecesOf.{none, more}
 use Rattle.sequence.proofs.PiecesRead.{Carried}
@@ -37,7 +37,7 @@ same-holding c s xs ys h =
       total = cond (h .closings i) (sumOf s) 0;
     }
 
-module _ (bearer period stamp packets octets : ℕ) (ps : List (List ℕ)) (c : Carried stamp packets octets ps) where
+module _ (bearer period stamp packets octets : ℕ) (ps : List (List ℕ)) (c : Carried stamp packets octets ps) (whole : NoneDropped ps) where
   abbrev s : List ℕ
   s = lengthsOf ps
 
@@ -56,14 +56,14 @@ module _ (bearer period stamp packets octets : ℕ) (ps : List (List ℕ)) (c : 
   unfolding keepParts addParts
   held-parts k h none = refl
   held-parts k h (more {x} {xs} q w) =
-      held-parts (keepPart k s (partOf x)) (hears-on bearer period stamp packets octets ps c k x h q) w
+      held-parts (keepPart k s (partOf x)) (hears-on bearer period stamp packets octets ps c whole k x h q) w
       ∙ ap (λ (r : Held). addParts r s (map partOf xs)) (held-part k x h q)
 
   hears-after : (k : Kept) {xs : List Piece} → Hears k → PiecesOf ps xs → Hears (keepParts k s (map partOf xs))
   unfolding keepParts
   hears-after k h none = h
   hears-after k h (more {x} {xs} q w) =
-      hears-after (keepPart k s (partOf x)) (hears-on bearer period stamp packets octets ps c k x h q) w
+      hears-after (keepPart k s (partOf x)) (hears-on bearer period stamp packets octets ps c whole k x h q) w
 
   module _ (capacity : ℕ) (fits : capacity ≤ mostCapacity) (room : countOf ps ≤ capacity) where
     -- the record after some frames
@@ -71,10 +71,10 @@ module _ (bearer period stamp packets octets : ℕ) (ps : List (List ℕ)) (c : 
     after xs = hearAll (emptyKept bearer period stamp capacity) bearer period (map (frameOf stamp packets octets ps) xs)
 
     abbrev first : Hears (emptyKept bearer period stamp capacity)
-    first = hears-first bearer period stamp packets octets ps c capacity fits room
+    first = hears-first bearer period stamp packets octets ps c whole capacity fits room
 
     kept-after : {xs : List Piece} → PiecesOf ps xs → after xs ≡ keepParts (emptyKept bearer period stamp capacity) s (map partOf xs)
-    kept-after w = parts-kept bearer period stamp packets octets ps c (emptyKept bearer period stamp capacity) first w
+    kept-after w = parts-kept bearer period stamp packets octets ps c whole (emptyKept bearer period stamp capacity) first w
 
     -- it holds what of the sending came, and nothing else
     pub holds-which-came : (xs : List Piece) → PiecesOf ps xs

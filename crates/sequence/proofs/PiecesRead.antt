@@ -1,5 +1,5 @@
--- Each frame of a sequence within the limits is read as what it is: the packet with its number, the octets before it and its length, or the
--- closing. Assumes nothing.
+-- Each frame of a sequence within the limits is read as what it is: the packet with its number, the octets before it and its length, if the
+-- rule drops nothing from the payloads, or the closing. Assumes nothing.
 use Prim.Native.Nat.{ℕ, zero, suc, _+_, _-_, _*_, _≤_, _<_}
 use mathlib.Core.Path.{_≡_, refl, ap, ap₂, _∙_}
 use mathlib.Core.Bool.{false}
@@ -12,6 +12,7 @@ use Rattle.units.specs.Limits.{mostPayload, mostInSequence, mostPeriodPackets, 
 use Rattle.frame.specs.declared.DataPdu.{DataPdu}
 use Rattle.frame.specs.declared.Read.the-variants.{Closing, Data, ClosingWithLengths}
 use Rattle.frame.specs.Counts.{dataWrong, closingWrong, sumOf, listWrong}
+use Rattle.frame.specs.Layout.{dataPdu}
 use Rattle.frame.specs.Payloads.{AllPayload}
 use Rattle.frame.specs.Reading.{readFrame}
 use Rattle.frame.specs.Writing.{dataFrame}
@@ -24,16 +25,14 @@ use Rattle.sender.proofs.FramesOfSequence.Short.{none, more}
 use Rattle.reception.specs.Sendings.{Sending}
 use Rattle.reception.proofs.Points.{all-short}
 use Rattle.reception.proofs.SumsBefore.{before, before-start, before-end, climb}
-use Rattle.sequence.specs.Pieces.{frameOf, AllKept, lengthsOf}
-use Rattle.sequence.specs.Pieces.AllKept.{none as none-kept, more as more-kept}
+use Rattle.sequence.specs.Pieces.{frameOf, NoneDropped, lengthsOf}
+use Rattle.sequence.specs.Pieces.NoneDropped.{none as no-more, more as one-more}
 use Rattle.sequence.specs.Pieces.Piece.{DataOf, PlainClosing, ListedClosing}
 
--- a sequence that the sender carries: a stamp and payloads within the limits, payloads of which a reader keeps all, and totals of the
--- period that are possible
+-- a sequence that the sender carries: a stamp and payloads within the limits, and totals of the period that are possible
 pub record Carried (stamp packets octets : ℕ) (ps : List (List ℕ)) : Type 0 where
   pub stamped : stamp ≤ lastStamp
   pub short : Short ps
-  pub kept : AllKept ps
   pub few : countOf ps ≤ mostInSequence
   pub totals : packets + countOf ps ≤ mostPeriodPackets
   pub possible : octets ≤ mostPayload * packets
@@ -57,10 +56,10 @@ short-at none k lt = absurd (not-suc-le-zero lt)
 short-at (more h w) zero lt = h
 short-at (more h w) (suc k) lt = short-at w k (omega arith)
 
-kept-at : {ps : List (List ℕ)} → AllKept ps → (k : ℕ) → k < length ps → AllPayload (getD ps k [])
-kept-at none-kept k lt = absurd (not-suc-le-zero lt)
-kept-at (more-kept h w) zero lt = h
-kept-at (more-kept h w) (suc k) lt = kept-at w k (omega arith)
+all-at : {ps : List (List ℕ)} → NoneDropped ps → (k : ℕ) → k < length ps → AllPayload (getD ps k [])
+all-at no-more k lt = absurd (not-suc-le-zero lt)
+all-at (one-more h w) zero lt = h
+all-at (one-more h w) (suc k) lt = all-at w k (omega arith)
 
 -- the lengths of its payloads are a sending
 pub carried-sending : (stamp packets octets : ℕ) (ps : List (List ℕ)) → Carried stamp packets octets ps → Sending (lengthsOf ps)
@@ -69,7 +68,7 @@ carried-sending stamp packets octets ps c = record { few = rw (← count-is ps) 
 -- packet k of it, and its closing
 abbrev pub dataOf : ℕ → List (List ℕ) → ℕ → DataPdu
 dataOf stamp ps k =
-    record { stamp = stamp; number = record { 0 = k }; elapsed = record { 0 = before (lengthsOf ps) k }; length = record { 0 = getD (lengthsOf ps) k 0 } }
+    dataPdu stamp k (before (lengthsOf ps) k) (getD (lengthsOf ps) k 0)
 
 same-data : (stamp n m e d : ℕ) (p : List ℕ) → n ≡ m → e ≡ d → dataFrame stamp n e p ≡ dataFrame stamp m d p
 same-data stamp n m e d p h g = ap₂ (λ (x y : ℕ). dataFrame stamp x y p) h g
@@ -106,11 +105,11 @@ module _ (stamp packets octets : ℕ) (ps : List (List ℕ)) (c : Carried stamp 
       let up = before-most k in
       simp (lt-leb mostInSequence k (omega (arith, count-is ps, length-map ps length)), le-ltb (mostPayload * k) (before (lengthsOf ps) k) up)
 
-  pub data-read : (k : ℕ) → k < length ps → readFrame (frameOf stamp packets octets ps (DataOf k)) ≡ Data (dataOf stamp ps k)
-  data-read k lt =
+  pub data-read : NoneDropped ps → (k : ℕ) → k < length ps → readFrame (frameOf stamp packets octets ps (DataOf k)) ≡ Data (dataOf stamp ps k)
+  data-read whole k lt =
       let small : length (getD ps k []) ≤ mostPayload = rw (length-at ps k) at (short-at (c .short) k (rw (length-map ps length) lt)) in
       ap readFrame (data-frame-is stamp packets octets ps k lt)
-      ∙ data-back-whole stamp k (before (lengthsOf ps) k) (getD ps k []) (c .stamped) small (data-possible k lt) (kept-at (c .kept) k lt)
+      ∙ data-back-whole stamp k (before (lengthsOf ps) k) (getD ps k []) (c .stamped) small (data-possible k lt) (all-at whole k lt)
       ∙ rw (length-at ps k)
 
   closing-fits : Fits (closingAfter stamp packets octets ps)

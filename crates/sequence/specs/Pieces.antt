@@ -42,9 +42,9 @@ pub data PiecesOf (payloads : List (List ℕ)) : List Piece → Type 0 where
   more : {x : Piece} {xs : List Piece} → PieceOf payloads x → PiecesOf payloads xs → PiecesOf payloads (x ∷ xs)
 
 -- "payloads from which this rule drops nothing" (document 02, request 2)
-pub data AllKept : List (List ℕ) → Type 0 where
-  none : AllKept []
-  more : {p : List ℕ} {ps : List (List ℕ)} → AllPayload p → AllKept ps → AllKept (p ∷ ps)
+pub data NoneDropped : List (List ℕ) → Type 0 where
+  none : NoneDropped []
+  more : {p : List ℕ} {ps : List (List ℕ)} → AllPayload p → NoneDropped ps → NoneDropped (p ∷ ps)
 
 -- the lengths of the payloads, as a sending
 abbrev pub lengthsOf : List (List ℕ) → List ℕ

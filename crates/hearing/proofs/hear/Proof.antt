@@ -1,12 +1,12 @@
 -- `hearing::hear` meets its contract. Assumes nothing.
-use mathlib.Core.Path.{_≡_, sym, ap, _∙_}
+use mathlib.Core.Path.{_≡_, sym, _∙_}
 use mathlib.Core.Bool.{false}
 use lib.ListN.{length}
 use denote.Ref.{now}
 use Rattle.frame.specs.declared.Read.{Read}
 use Rattle.frame.specs.Reading.{readFrame}
 use Rattle.frame.proofs.OnePaper.{read-known}
-use Rattle.frame.proofs.Said.{DataSaid, data-said, handed-length}
+use Rattle.frame.proofs.Said.{DataSaid, data-said, length-handed}
 use Rattle.reception.specs.Hearing.{keptIn, listsDiffer, hearRead, hearFrame}
 use Rattle.hearing.proofs.Answered.{refused-as}
 use Rattle.reception.proofs.KeptAsHeld.{lists-matched}
@@ -71,7 +71,7 @@ hear-data-requires c κs =
     let r = c .before .before .before .before .before in
     let f = r .before .before in
     let d = said r in
-    let l = handed-length _ _ d in
+    let l = length-handed _ _ d in
     (lists-matched _ _ _ (even f), ((omega (arith, d .number, d .elapsed), omega (arith, l, d .short)), l))
 
 enum-known-read-3 : tie.Need-enum-known-read-3

@@ -1,5 +1,5 @@
 -- `payloads::kept_by_v4` meets its contract. Assumes nothing.
-use mathlib.Core.Path.{_≡_, sym, ap, _∙_}
+use mathlib.Core.Path.{sym, ap, _∙_}
 use Prim.Native.Nat.{_≤_, _*_}
 use denote.Ref.{now}
 use lib.ListN.{length}

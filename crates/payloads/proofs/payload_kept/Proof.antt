@@ -1,13 +1,12 @@
 -- `payloads::payload_kept` meets its contract. Assumes nothing.
 use mathlib.Core.Path.{sym}
-use Rattle.frame.proofs.Payloads.{short-kept, other-kept}
-use native.Mathlib.Omega.{arith}
+use Rattle.frame.proofs.Payloads.{incomplete-kept, other-kept}
 use borrow.Author.Needs.{needs}
 use Rattle.payloads.proofs.payload_kept.Statement.{statement}
 use Rattle.payloads.proofs.payload_kept.Tie as tie
 
 returns : tie.Need-returns
-returns c = sym (short-kept _ (c .if1 .taken))
+returns c = sym (incomplete-kept _ (c .if1 .taken))
 
 shared-slice-read-version : tie.Need-shared-slice-read-version
 shared-slice-read-version c = search needs

@@ -1,12 +1,11 @@
 -- `hearing::following::hear_next` meets its contract. Assumes nothing.
-use mathlib.Core.Path.{_≡_, sym, ap, _∙_}
-use lib.ListN.{length}
+use mathlib.Core.Path.{_≡_, sym, _∙_}
 use denote.Ref.{now}
 use Rattle.frame.specs.declared.Read.{Read}
 use Rattle.frame.specs.Reading.{readFrame}
 use Rattle.reception.specs.Hearing.{keptIn, hearRead, hearFrame}
 use Rattle.frame.proofs.OnePaper.{read-known}
-use Rattle.frame.proofs.Said.{DataSaid, data-said, handed-length}
+use Rattle.frame.proofs.Said.{DataSaid, data-said, length-handed}
 use Rattle.reception.proofs.KeptAsHeld.{matched-lists}
 use Rattle.hearing.proofs.Judged.{frame-read, packet-judged, closing-judged, closing-only, unread}
 use Rattle.hearing.proofs.SpanKept.{follows-still, same-follows}
@@ -57,7 +56,7 @@ next-packet-requires c κs =
     let f = r .before .before in
     let p = f .before .before .before .before .before .pre in
     let d = said r in
-    let l = handed-length _ _ d in
+    let l = length-handed _ _ d in
     (p .0, (p .1 .0, (p .1 .1 .0, (p .1 .1 .1, (omega (arith, d .number), omega (arith, d .number, d .elapsed), omega (arith, l, d .short), l)))))
 
 enum-known-read-3 : tie.Need-enum-known-read-3

@@ -2,7 +2,6 @@
 use mathlib.Core.Path.{sym, _∙_}
 use Rattle.frame.proofs.OnePaper.{read-known}
 use Rattle.frame.proofs.Said.{data-said}
-use native.Mathlib.Omega.{arith}
 use borrow.Author.Needs.{needs}
 use Rattle.second_frames.proofs.again.write_again.Statement.{statement}
 use Rattle.second_frames.proofs.again.write_again.Tie as tie

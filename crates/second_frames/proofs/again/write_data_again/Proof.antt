@@ -1,6 +1,5 @@
 -- `second_frames::again::write_data_again` meets its contract. Assumes nothing.
 use Rattle.second_frames.proofs.WithinRoom.{within, data-within}
-use native.Mathlib.Omega.{arith}
 use borrow.Author.Needs.{needs}
 use Rattle.second_frames.proofs.again.write_data_again.Statement.{statement}
 use Rattle.second_frames.proofs.again.write_data_again.Tie as tie
