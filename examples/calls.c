@@ -184,7 +184,7 @@ static void hearing_wrong_checks(void)
     expect(head[QUIMDORAL_HEAD_CLOSED] == 0, "wrong checks among others leave a record");
 }
 
-/* What stands behind an IP packet is written, and then dropped: who reads and who hears gets the packet alone. */
+/* What stands behind an IP packet is written, and then dropped: whoever reads or hears it gets the packet alone. */
 static void extension_dropped(void)
 {
     const uint8_t *packet = extended + QUIMDORAL_DATA_SIZE(0u);

@@ -120,7 +120,7 @@ uint16_t quimdoral_payload_check(const uint8_t *octets, size_t octets_length);
  * totals, a closing PDU no payload: zeros stand there.
  *
  * Up to four octets behind an IP packet are an extension (clause 5.5.3.14): they are dropped, and 6 judges the payload without them. The
- * payload check covers them too. quimdoral_payload_kept, below, says when there are such octets.
+ * payload check covers them too. quimdoral_payload_kept, below, says of the octets from the twelfth on how many are payload.
  */
 enum {
     QUIMDORAL_SAID_KIND = 0,     /* one more than the PDU type: 1 closing, 2 data, 4 closing with lengths */
@@ -148,11 +148,11 @@ uint64_t quimdoral_read_lengths(const uint8_t *frame, size_t frame_length, uint1
  * quimdoral_payload_kept: how many octets of a payload a reader takes. Answers the number itself, and refuses nothing. `payload` is only
  * read.
  *
- * Where `payload` begins as an IPv4 or IPv6 packet, and 0 to 4 octets stand behind the length that its IP header states (IPv4: the total
- * length; IPv6: the payload length and 40), the answer is that length, and the octets behind it are an extension, which whoever reads or
- * hears the frame drops. Otherwise it is `payload_length`: where the header is incomplete (fewer than 20 octets of IPv4, or 40 of IPv6),
- * has another version or an IHL under 5, or states less than its own header, more than is there, or over four octets less. Nothing else
- * of the header is judged.
+ * Where an IPv4 or IPv6 header stands in front of `payload`, and up to four octets more are there than it says (IPv4: the total length;
+ * IPv6: the payload length plus 40), the answer is the length that it says; the octets behind are an extension, which whoever reads or
+ * hears the frame drops. In every other case the answer is `payload_length`: with fewer octets than the shortest header has (20 in IPv4,
+ * 40 in IPv6), with a version that is neither 4 nor 6, in IPv4 with an IHL below 5 or a total length shorter than the header, and with a
+ * length that is above `payload_length`, or five or more below it. Nothing else of the header is judged.
  *
  * Ask it of what is to be sent: a payload that is an IP packet with one to four octets behind it is written whole and read back shorter.
  */
@@ -217,8 +217,9 @@ uint8_t quimdoral_sender_open(uint64_t *state, size_t state_length, uint32_t sta
 /* quimdoral_sender_data: sends a data PDU, within a sequence: writes a Type 1 frame in front of `out`, and counts the packet and the octets
  * of `payload`, which is only read. Answers a value: how many octets the frame has. Refuses in this order: 21, 15, 20, 17, 18, 12.
  *
- * A payload that is an IP packet with one to four octets behind it is sent and counted whole, and heard shorter, so that the frames behind
- * it contradict it. Give such a packet without these octets: quimdoral_payload_kept tells how many to give. */
+ * A payload that is an IP packet with one to four octets behind it is sent and counted whole, and heard shorter, so that the next frame of
+ * its sequence contradicts it; where that one is lost, the octets behind the packet count as missing with it. Give such a packet without
+ * these octets: quimdoral_payload_kept tells how many to give. */
 uint64_t quimdoral_sender_data(uint64_t *state, size_t state_length, const uint8_t *payload, size_t payload_length,
                                uint8_t *out, size_t out_length);
 

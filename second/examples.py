@@ -56,7 +56,7 @@ PAYLOADS = (
     # The limit: a payload of 4,095 octets, which is FFF in hex; FD7 is 40 less.
     ("45 00 0F FF", 4_095, 4_095), ("45 00 0F FF", 4_096, 4_095), ("45 00 0F FF", 4_099, 4_095), ("45 00 0F FC", 4_096, 4_092),
     ("60 00 00 00 0F D7", 4_095, 4_095), ("60 00 00 00 0F D7", 4_099, 4_095))
-# The same at which refusal 6 is told: over 4 octets less, or more than 4,095 stated.
+# The same at which refusal 6 is told: over 4 octets less, more than 4,095 stated, or no IP header.
 TOO_LONG = (
     ("45 00 0F FF", 4_100), ("45 00 0F FE", 4_099), ("45 00 0F FB", 4_096), ("45 00 10 00", 4_096), ("45 00 10 00", 4_099),
     ("44 00 0F FF", 4_099), ("55 00 0F FF", 4_099), ("60 00 00 00 0F D7", 4_100), ("60 00 00 00 0F D8", 4_099))

@@ -141,7 +141,7 @@ fn kind_of(frame: &[u8]) -> Result<u8, Refused> {
     if frame.len() < least { refused(1) } else { Ok(kind) }
 }
 
-/// What a closing PDU says, where its counts are possible.
+/// What a closing PDU says, where its totals are possible.
 fn closing(frame: &[u8]) -> Result<Closing, Refused> {
     let (stamp, packet, elapsed) = (number(&frame[1..3]), number(&frame[3..5]), number(&frame[5..9]));
     let (packets, octets) = (number(&frame[9..12]), number(&frame[12..17]));

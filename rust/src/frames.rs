@@ -192,11 +192,12 @@ pub fn read(frame: &[u8]) -> Result<Frame<'_>, ReadRefusal> {
     told.map_err(ReadRefusal::answered)
 }
 
-/// How many octets of a payload a reader takes. Where it begins as an IPv4 or IPv6 packet, and 0 to 4 octets stand behind the length that
-/// the IP header states, that length: whoever reads or hears the frame drops the octets behind it as an extension (clause 5.5.3.14).
+/// How many octets of a payload a reader takes. Where an IPv4 or IPv6 header stands in front, and up to four octets more are there than it
+/// says, that is the length that it says: whoever reads or hears the frame drops the octets behind it as an extension (clause 5.5.3.14).
 ///
-/// Otherwise all of them: where the header is incomplete (fewer than 20 octets of IPv4, or 40 of IPv6), has another version or an IHL under
-/// 5, or states less than its own header, more than is there, or over four octets less. Nothing else of the header is judged.
+/// In every other case all are taken: with fewer octets than the shortest header has (20 in IPv4, 40 in IPv6), with a version that is
+/// neither 4 nor 6, in IPv4 with an IHL below 5 or a total length shorter than the header, and with a length that is above the number of
+/// octets there, or five or more below it. Nothing else of the header is judged.
 ///
 /// ```
 /// use quimdoral::{Data, Frame, Octets, Packets, Refusal, frames};

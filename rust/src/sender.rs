@@ -121,8 +121,9 @@ impl Sender {
     /// this order: 21, 15, 20, 17, 18, 12.
     ///
     /// All octets of the payload are sent and counted. Receivers drop up to four octets behind an IP packet, and count them nowhere: a
-    /// payload that ends in such octets is heard shorter than it was sent, so that the frames behind it contradict it. Give packets
-    /// without them; [`frames::payload_kept`](crate::frames::payload_kept) tells.
+    /// payload that ends in such octets is heard shorter than it was sent, so that the next frame of its sequence contradicts it; where
+    /// that one is lost, these octets count as missing with it. Give packets without them;
+    /// [`frames::payload_kept`](crate::frames::payload_kept) tells.
     ///
     /// ```
     /// use quimdoral::{Key, ReadRefusal, Record, Refusal, Sender, frames};

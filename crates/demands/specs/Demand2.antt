@@ -1,6 +1,6 @@
 -- Demand 2: "Frames are written and read as TS 25.446 v17.0.0 says, with both checksums. Reading what we wrote gives back what went in;
 -- writing again what was read gives the same octets (spare bits and padding zero, no extension)." Of any outcomes that meet the promises.
--- Assumes nothing.
+-- What a payload is, document 02's request 2 says, and is quoted so. Assumes nothing.
 use Prim.Native.Nat.{ℕ, _+_, _%_, _≤_, _<_}
 use mathlib.Core.Path.{_≡_}
 use mathlib.Core.Logic.{_⊎_}
@@ -44,7 +44,7 @@ pub record SpareZero (s : List ℕ) : Type 0 where
 pub record Demand2 : Type 0 where
   -- what is accepted has both checks, and says what its octets say at their places
   pub checked : (s : List ℕ) (r : Read) → ReadAs s r → (readPaper r .kind ≡ 0 → ⊥) → BothChecks s × (r ≡ said (typeOf s) s)
-  -- the payload of an accepted data PDU: so many octets as it says, "from the frame's twelfth octet"
+  -- the payload of an accepted data PDU: as many octets as it says, "from the frame's twelfth octet"
   pub payload-told : (s : List ℕ) (d : DataPdu) → ReadAs s (Data d) → payloadOf s ≡ take (d .length .0) (drop dataHead s)
   -- request 2: of an IP packet with one to four octets behind it the packet
   pub extension-dropped : (s : List ℕ) (d : DataPdu) (n : ℕ) → ReadAs s (Data d) → Extended (drop dataHead s) n → d .length .0 ≡ n

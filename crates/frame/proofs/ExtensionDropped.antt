@@ -37,7 +37,7 @@ three-dropped : readFrame (frameWith 0x3A 0xC9 (ipv6 1 (0x77 ∷ 0xAA ∷ 0xBB �
 unfolding be divide lowDigits bitsOf check readFrame readHeaded readBody dataWrong payloadKept startsV4 startsV6
 three-dropped = refl
 
--- four octets behind it, the most
+-- four octets behind an IPv4 packet of twenty, the most
 four-dropped : readFrame (frameWith 0x3B 0xB9 (ipv4 0x45 0 20 (0xAA ∷ 0xBB ∷ 0xCC ∷ 0xDD ∷ []))) ≡ Data (first 20)
 unfolding be divide lowDigits bitsOf check readFrame readHeaded readBody dataWrong payloadKept startsV4 startsV6
 four-dropped = refl

@@ -1,5 +1,5 @@
--- What the rule of a Type 1 payload keeps: of an IP packet with at most four octets behind it the packet, and of all else everything.
--- Assumes nothing.
+-- What the rule of a Type 1 payload (document 02, request 2) keeps: of an IP packet with at most four octets behind it the packet, and of
+-- all else everything. Assumes nothing.
 use Prim.Native.Nat.{ℕ, _+_, _*_, _≤_, _<_}
 use native.Mathlib.Omega.{arith}
 use mathlib.Core.Path.{_≡_, refl, sym, ap, _∙_}

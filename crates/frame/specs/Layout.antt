@@ -61,7 +61,7 @@ payloadPart n s = drop (n + 2) s
 abbrev pub payloadLength : List ℕ → ℕ
 payloadLength s = payloadKept (payloadPart shortControl s)
 
--- the payload, which is handed on: so many octets "from the frame's twelfth octet"
+-- the payload, which is handed on: that many octets "from the frame's twelfth octet"
 abbrev pub payloadOf : List ℕ → List ℕ
 payloadOf s = take (payloadLength s) (payloadPart shortControl s)
 

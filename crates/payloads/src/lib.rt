@@ -45,7 +45,7 @@ fn kept_by_v6(part: &[u8]) -> u64
     kept_of(part.len() as u64, fields::field(part, 4, 2) + 40)
 }
 
-// How many octets of a part, or of a payload that is to be written, a reader takes. What cannot be an IP packet is told first.
+// How many octets of a part, or of a payload that is to be written, a reader takes. What cannot be an IP packet is ruled out first.
 pub fn payload_kept(part: &[u8]) -> u64
     ensures { λ r. ⌜ r ≡ payloadKept (now (part .entry)) ⌝ }
 {

@@ -1,5 +1,5 @@
--- Why hearing our sender's frames "needs payloads from which this rule drops nothing": the sender counts every octet that it was given, so
--- behind an IP packet with one octet too many its next packet contradicts. Assumes nothing.
+-- Why hearing our sender's frames "needs payloads from which this rule drops nothing" (document 02, request 2): the sender counts every octet
+-- that it was given, so behind an IP packet with one octet too many its next packet contradicts. Assumes nothing.
 use Prim.Native.Nat.{ℕ}
 use mathlib.Core.Path.{_≡_, refl}
 use mathlib.Core.List.{List, [], _∷_, _++_}

@@ -33,15 +33,15 @@ payload-kept-requires c κs = search needs
 kept : (c : tie.After-payload-kept) → c .payload-kept .result ≡ payloadLength (now (c .before .before .before .args .frame))
 kept c = c .payload-kept .ensures ∙ ap payloadKept (to-end 11 (now (c .before .before .before .args .frame)))
 
-short : (c : tie.Else1) → payloadLength (now (c .before .before .before .before .args .frame)) ≤ mostPayload
-short c = omega (arith, kept (c .before), c .if1 .left)
-
 returns : tie.Need-returns
 unfolding readBody
 returns c =
     let s = now (c .before .before .before .before .args .frame) in
     let h : mostPayload < payloadLength s = omega (arith, kept (c .before), c .if1 .taken) in
     simp (lt-ltb _ _ h)
+
+short : (c : tie.Else1) → payloadLength (now (c .before .before .before .before .args .frame)) ≤ mostPayload
+short c = omega (arith, kept (c .before), c .if1 .left)
 
 payload-compared-requires : tie.Need-payload-compared-requires
 payload-compared-requires c κs = (omega arith, to-end 11 (now (c .before .before .before .before .args .frame)))
