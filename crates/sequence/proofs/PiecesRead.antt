@@ -48,10 +48,10 @@ unfolding octetsOf sumOf
 octets-are [] = refl
 octets-are (p ∷ ps) = omega (arith, octets-are ps)
 
-length-at : (ps : List (List ℕ)) (k : ℕ) → getD (lengthsOf ps) k 0 ≡ length (getD ps k [])
+pub length-at : (ps : List (List ℕ)) (k : ℕ) → getD (lengthsOf ps) k 0 ≡ length (getD ps k [])
 length-at ps k = List·getD-map length ps k []
 
-short-at : {ps : List (List ℕ)} → Short ps → (k : ℕ) → k < length (lengthsOf ps) → getD (lengthsOf ps) k 0 ≤ mostPayload
+pub short-at : {ps : List (List ℕ)} → Short ps → (k : ℕ) → k < length (lengthsOf ps) → getD (lengthsOf ps) k 0 ≤ mostPayload
 short-at none k lt = absurd (not-suc-le-zero lt)
 short-at (more h w) zero lt = h
 short-at (more h w) (suc k) lt = short-at w k (omega arith)
@@ -98,7 +98,7 @@ module _ (stamp packets octets : ℕ) (ps : List (List ℕ)) (c : Carried stamp 
       let up = climb (lengthsOf ps) (all-short (lengthsOf ps) (carried-sending stamp packets octets ps c)) 0 k (omega arith) in
       omega (arith, up .1, before-start (lengthsOf ps))
 
-  data-possible : (k : ℕ) → k < length ps → dataWrong k (before (lengthsOf ps) k) ≡ false
+  pub data-possible : (k : ℕ) → k < length ps → dataWrong k (before (lengthsOf ps) k) ≡ false
   unfolding dataWrong
   data-possible k lt =
       let few = c .few in
