@@ -216,7 +216,7 @@ only-dropped p =
     (λ t. behind-v6 p _ t (all-or-stated (length p) (statedV6 p)))
     (λ _. inl refl))
 
--- and it always is
+-- and what stands so behind an IP packet always is
 pub always-dropped : (p : List ℕ) (n : ℕ) → Extended p n → payloadKept p ≡ n
 always-dropped p n x = let l = x .some in packet-in-front p n (omega (arith, l)) (x .packet) (x .few)
 
