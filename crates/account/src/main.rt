@@ -1,4 +1,6 @@
 // The printed account: items on standard input, accounts on standard output, and what failed on standard error.
+#![tactic(auto)]
+
 mod failures;
 
 ghost use Rattle.std.specs.Prelude.{◌≡◌, ◌+◌, ◌≤◌, length, take, drop};
@@ -16,7 +18,7 @@ use printout::Going;
 
 // What is there after a read: the octets that were not passed yet, where the text to print ends, whether it is the last, and
 // whether the input has ended or a read failed.
-#[derive(Drop)]
+#[derive(Clone, Copy)]
 struct Done {
     going: Going,
     have: usize,

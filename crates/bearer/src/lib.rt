@@ -1,5 +1,7 @@
 // The sender of one bearer, advanced where it stands. Each function is the one by value of `sender`: it takes the state out, and
 // stores the state after the call over it. A refused call stores what stood there.
+#![tactic(auto)]
+
 ghost use Rattle.std.specs.Prelude.{length};
 ghost use Rattle.frame.specs.Writing.{data_frame, closing_frame, lengths_frame};
 ghost use Rattle.sender.specs.State.{closing_by};

@@ -5,14 +5,14 @@ use sender::{Phase, Sender, Turned, Turning};
 use units::refusal_in_one;
 
 // The two senders, each advanced in its own way.
-#[derive(Drop)]
+#[derive(Clone, Copy)]
 pub struct Both {
     pub by_value: Sender,
     pub in_place: Sender,
 }
 
 // What a call gave: its refusal in one number or 0, how many octets it wrote, and the sender after it.
-#[derive(Drop)]
+#[derive(Clone, Copy)]
 pub struct Gave {
     pub number: u64,
     pub octets: u64,

@@ -9,7 +9,7 @@ use frame::Written;
 use sender::{Sender, Turning};
 
 // The answer of a call that writes a frame, and the sender that was lent.
-#[derive(Drop)]
+#[derive(Clone, Copy)]
 pub struct Lent {
     pub answer: Written,
     pub sender: Sender,

@@ -1,4 +1,6 @@
 // Runs the functions that advance a sender where it stands beside those by value, and prints each answer and any difference.
+#![tactic(auto)]
+
 mod alike;
 mod calls;
 mod lent;

@@ -1,4 +1,6 @@
 // Runs the bench examples that are not proved as theorems, F and J, and prints what comes out.
+#![tactic(auto)]
+
 use frame::{Read, Written};
 use libc::STDOUT_FILENO;
 use units::{Octets, Packets};

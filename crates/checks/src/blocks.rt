@@ -7,7 +7,7 @@ ghost use Rattle.checks.specs.Inside.{exponents, feed, leaves, passed, powers, v
 use crate::words::{Powers, fold, in_one_word};
 
 // A polynomial of 512 digits, the most significant first.
-#[derive(Drop)]
+#[derive(Clone, Copy)]
 pub struct Block {
     pub w0: u64,
     pub w1: u64,

@@ -1,5 +1,7 @@
 // The header check and the payload check of TS 25.446, clause 5.6.2, of any row of octets. Each is proved to be the long
 // division of specs/Check.antt, bit after bit.
+#![tactic(auto)]
+
 mod blocks;
 mod ends;
 mod words;

@@ -4,7 +4,7 @@ ghost use Rattle.std.specs.Prelude.{◌≡◌, ◌≤◌, ◌<◌, length};
 ghost use Rattle.checks.specs.Inside.{Cuts, Folded, Reduced, Stands, UpTo, exponents, ups};
 
 // D^a + D^b + D^c, by the exponents. An odd number of equal exponents is that power alone.
-#[derive(Drop)]
+#[derive(Clone, Copy)]
 pub struct Powers(pub u32, pub u32, pub u32);
 
 // x times the sum by, within 64 digits.

@@ -1,5 +1,7 @@
 // The clock of 10 ms ticks: the stamp of a moment, when a frame is due, and how late it came. Ticks start over after 4,294,967,295,
 // so no two of them are compared: only how far one is past another, which the supplied wrapping functions give.
+#![tactic(auto)]
+
 ghost use Rattle.std.specs.Prelude.{◌≡◌};
 ghost use Rattle.clock.specs.Clock.{stamp_of, due_at, late};
 ghost use Rattle.clock.specs.Paper.{moment_paper, due_paper};
@@ -10,14 +12,14 @@ use units::limits::LAST_STAMP;
 use units::refusals::{PERIOD_OVER, STAMP_TOO_HIGH};
 
 // The stamp of a moment, or why it has none.
-#[derive(Drop)]
+#[derive(Clone, Copy)]
 pub enum Moment {
     Stamp(u32),
     Refused(Refusal),
 }
 
 // The tick at which a frame is due, or why there is none.
-#[derive(Drop)]
+#[derive(Clone, Copy)]
 pub enum DueTime {
     At(u32),
     Refused(Refusal),

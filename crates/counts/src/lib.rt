@@ -1,4 +1,6 @@
 // Whether the counts of a frame are impossible: one function for each definition in `frame`, for the reader and the writer.
+#![tactic(auto)]
+
 ghost use Rattle.std.specs.Prelude.{◌≡◌};
 ghost use Rattle.frame.specs.Counts.{data_wrong, closing_wrong};
 

@@ -12,7 +12,7 @@ use units::{Octets, Packets};
 
 // Whether a record is damaged. Where it is not: the number after the last packet heard, the octets before it, and the gaps before the
 // packets heard.
-#[derive(Drop)]
+#[derive(Clone, Copy)]
 pub struct Judged {
     pub end: Packets,
     pub before: Octets,

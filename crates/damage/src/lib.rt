@@ -1,5 +1,7 @@
 // What the functions that hear, join and report ask of a record first: whether its lists match, whether it is damaged (one pass over
 // its places), and whether a key is its own.
+#![tactic(auto)]
+
 pub mod judging;
 
 ghost use Rattle.std.specs.Prelude.{◌≡◌, ◌≤◌};

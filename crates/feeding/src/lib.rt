@@ -1,4 +1,6 @@
 // A buffer that is fed from standard input: octets read behind those that are left, and those moved to its front.
+#![tactic(auto)]
+
 ghost use Rattle.std.specs.Prelude.{◌≡◌, true, false, ◌+◌, ◌≤◌, ltb, length, take, drop};
 ghost use Rattle.io.specs.Counts.{IsPrefixLen};
 ghost use Rattle.feeding.specs.Feeding.{Behind, ReadOn};
@@ -6,7 +8,7 @@ ghost use Rattle.feeding.specs.Feeding.{Behind, ReadOn};
 use libc::{EAGAIN, EINTR, STDIN_FILENO};
 
 // What reading came to: how many octets are there then, and whether the input ends behind them or a read failed there.
-#[derive(Drop)]
+#[derive(Clone, Copy)]
 pub struct Fed {
     pub have: usize,
     pub ended: bool,

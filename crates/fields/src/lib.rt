@@ -1,5 +1,7 @@
 // Numbers in octets, the most significant first, read from a slice and written into one. The width is a parameter: one
 // function and one law serve every field. Callers have shown that the octets are there.
+#![tactic(auto)]
+
 pub mod little;
 pub mod widths;
 

@@ -1,11 +1,13 @@
 // What SYNC frames say, their sizes, and what reading and writing them answers. The definitions are in specs/; the functions stand
 // in `reader` and `writer`.
+#![tactic(auto)]
+
 pub mod sizes;
 
 use units::{Octets, Packets, Refusal};
 
 // A data PDU (Type 1): the packets and octets of its sequence before it, and the octets of its payload.
-#[derive(Drop)]
+#[derive(Clone, Copy)]
 pub struct DataPdu {
     pub stamp: u32,
     pub number: Packets,
@@ -14,7 +16,7 @@ pub struct DataPdu {
 }
 
 // A closing PDU (Types 0 and 3): the packets and octets of its sequence, and then those of the period.
-#[derive(Drop)]
+#[derive(Clone, Copy)]
 pub struct ClosingPdu {
     pub stamp: u32,
     pub number: Packets,
@@ -24,7 +26,7 @@ pub struct ClosingPdu {
 }
 
 // What a frame says, or why it is refused.
-#[derive(Drop)]
+#[derive(Clone, Copy)]
 pub enum Read {
     Closing(ClosingPdu),
     Data(DataPdu),
@@ -33,14 +35,14 @@ pub enum Read {
 }
 
 // How many octets were written, or why none.
-#[derive(Drop)]
+#[derive(Clone, Copy)]
 pub enum Written {
     Done(usize),
     Refused(Refusal),
 }
 
 // How many lengths of a Type 3 frame were written, or why none.
-#[derive(Drop)]
+#[derive(Clone, Copy)]
 pub enum Listed {
     Lengths(Packets),
     Refused(Refusal),

@@ -13,7 +13,7 @@ use reception::Head;
 use units::{Octets, Packets};
 
 // The places in which packets were heard: none before the first, none from the end on.
-#[derive(Drop)]
+#[derive(Clone, Copy)]
 pub struct Span {
     pub first: usize,
     pub end: usize,

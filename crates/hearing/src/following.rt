@@ -15,7 +15,7 @@ use units::Refusal;
 
 // The head of the record after a frame, the places in which packets were heard, and the answer. The answer stands last: so the head
 // is copied as it was stored, and no copy has to wait for several stores.
-#[derive(Drop)]
+#[derive(Clone, Copy)]
 pub struct Following {
     pub head: Head,
     pub span: Span,

@@ -1,4 +1,6 @@
 // Hearing: a fresh record, and frames taken into it.
+#![tactic(auto)]
+
 pub mod contradicting;
 pub mod following;
 pub mod looking;

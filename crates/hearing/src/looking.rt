@@ -11,7 +11,7 @@ use reception::Head;
 use units::{Octets, Packets};
 
 // Where packets end: the number after them, and the octets before it.
-#[derive(Drop)]
+#[derive(Clone, Copy)]
 pub struct End {
     pub number: Packets,
     pub octets: Octets,

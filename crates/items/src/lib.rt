@@ -1,4 +1,6 @@
 // What the account program reads: the item in front of a row of octets, one that begins a sequence or a frame.
+#![tactic(auto)]
+
 ghost use Rattle.std.specs.Prelude.{◌≡◌, ◌≤◌, length};
 ghost use Rattle.items.specs.Items.{body_length, kind, item_of};
 
@@ -12,14 +14,14 @@ const MOST_BODY: u32 = 8192;
 pub const LONGEST_ITEM: usize = 4 + MOST_BODY as usize;
 
 // Whose octets a sequence counts, and when it began.
-#[derive(Drop)]
+#[derive(Clone, Copy)]
 pub struct Key {
     pub bearer: u32,
     pub period: u32,
     pub stamp: u32,
 }
 
-#[derive(Drop)]
+#[derive(Clone, Copy)]
 pub enum Item {
     // An item that begins a sequence.
     Begins(Key),

@@ -1,4 +1,6 @@
 // Joining: what two records of one sequence heard, in the left one. Inside, r_ is of the right one.
+#![tactic(auto)]
+
 mod searching;
 mod writing;
 

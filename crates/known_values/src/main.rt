@@ -1,5 +1,7 @@
 // Prints the two checks of rows whose values are known from elsewhere: the digits 1 to 9, for which catalogues of checks give a
 // value, and the parts of the bench examples A to D.
+#![tactic(auto)]
+
 use libc::STDOUT_FILENO;
 
 fn say(text: &[u8]) {

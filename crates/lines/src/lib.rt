@@ -1,5 +1,7 @@
 // Text put into lent memory: words, numbers in decimal and the ends of lines. Each function answers the place behind what it put.
 // Callers have lent enough: what a number takes is never more than 21 octets.
+#![tactic(auto)]
+
 ghost use Rattle.std.specs.Prelude.{◌≡◌, [], ◌∷◌, ◌+◌, ◌≤◌, length};
 ghost use Rattle.fields.specs.Runs.{laid};
 ghost use Rattle.lines.specs.Text.{decimal, field, Puts};

@@ -1,5 +1,7 @@
 // Frames as numbers for C and Rust: a frame that is read as seven numbers in a lent list, and frames written from given fields and the
 // lengths of a Type 3 frame with the answer in one number, which is 256 times how many octets or lengths were written, or a refusal.
+#![tactic(auto)]
+
 ghost use Rattle.std.specs.Prelude.{◌≡◌, [], ◌∷◌, ◌≤◌, length};
 ghost use Rattle.frame.specs.Paper.{read_paper, written_paper};
 ghost use Rattle.frame.specs.Reading.{read_frame};

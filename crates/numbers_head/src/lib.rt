@@ -1,5 +1,7 @@
 // The head of a record as C and Rust keep it: a list of six numbers (bearer, period, stamp, 1 where closed and 0 where not, the
 // closing's packets, its octets).
+#![tactic(auto)]
+
 ghost use Rattle.std.specs.Prelude.{◌≡◌, cond};
 ghost use Rattle.numbers_head.specs.Heads.{no_head, head_of, with_head};
 

@@ -1,4 +1,6 @@
 // Joins of records as C and Rust keep them: the answer in one number.
+#![tactic(auto)]
+
 ghost use Rattle.std.specs.Prelude.{◌≡◌, ◌+◌, ◌*◌, ◌≤◌};
 ghost use Rattle.units.specs.Refusals.{contradiction};
 ghost use Rattle.reception.specs.Hearing.{kept_in};

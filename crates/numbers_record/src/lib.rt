@@ -1,5 +1,7 @@
 // Records as C and Rust keep them: the head in a list of six numbers, and beside it marks, elapsed octets and lengths, one list each and
 // one place a packet number.
+#![tactic(auto)]
+
 ghost use Rattle.std.specs.Prelude.{length};
 ghost use Rattle.reception.specs.Hearing.{kept_in, unused, empty_kept, fresh_record, hear_frame};
 ghost use Rattle.reception.specs.Several.{refusal_number, answer_of, answers_to, frames_in, hear_sequence};

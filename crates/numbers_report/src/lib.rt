@@ -1,5 +1,7 @@
 // Reports on records as C and Rust keep them: seven figures (sent packets and octets, heard, missing, how many gaps) in a lent list, and the gaps in
 // three more.
+#![tactic(auto)]
+
 ghost use Rattle.std.specs.Prelude.{◌≡◌, ◌≤◌, length};
 ghost use Rattle.fields.specs.Runs.{front};
 ghost use Rattle.reception.specs.Hearing.{kept_in};

@@ -1,5 +1,7 @@
 // The sender's calls for C and Rust, who keep it as a list of six numbers. A call that writes a frame answers in one number, as writing
 // from given fields does.
+#![tactic(auto)]
+
 ghost use Rattle.std.specs.Prelude.{◌≡◌, ◌≤◌, length};
 ghost use Rattle.frame.specs.Paper.{written_paper};
 ghost use Rattle.frame.specs.Writing.{data_frame, closing_frame, lengths_frame};

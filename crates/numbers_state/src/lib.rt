@@ -1,5 +1,7 @@
 // The sender as C and Rust keep it: a list of six numbers (0 where fresh, 1 where open and 2 where closed; stamp; the sequence's packets
 // and octets; the period's packets and octets).
+#![tactic(auto)]
+
 ghost use Rattle.std.specs.Prelude.{◌≡◌};
 ghost use Rattle.numbers_state.specs.States.{phase_of, phase_number, no_state, no_sender, sender_of, with_state};
 

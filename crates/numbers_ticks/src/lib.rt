@@ -1,4 +1,6 @@
 // The clock as numbers for C and Rust: an answer with a value in one number, which is 256 times the value, or a refusal's number.
+#![tactic(auto)]
+
 ghost use Rattle.std.specs.Prelude.{◌≡◌};
 ghost use Rattle.clock.specs.Clock.{stamp_of, due_at};
 ghost use Rattle.numbers_ticks.specs.Ticks.{moment_number, due_number};

@@ -1,4 +1,6 @@
 // Items one after another, from the front of what was read: as long as an item cannot be cut there, and what it prints has room.
+#![tactic(auto)]
+
 ghost use Rattle.std.specs.Prelude.{◌≡◌, false, ◌-◌, length};
 ghost use Rattle.printout.specs.Stepping.{between_in, Ready};
 ghost use Rattle.passing.specs.Passing.{goes_on, Passed, Waits};

@@ -1,4 +1,6 @@
 // A pause, for a program that has to try again later.
+#![tactic(auto)]
+
 use libc::types::timespec;
 
 // Waits for a time, or until a signal comes. A function that lends a struct is walked by hand, so nothing else stands here.

@@ -1,4 +1,6 @@
 // How much of the part behind the checks of a Type 1 frame is payload: up to four octets behind an IP packet are not.
+#![tactic(auto)]
+
 ghost use Rattle.std.specs.Prelude.{◌≡◌, ◌≤◌, length};
 ghost use Rattle.frame.specs.Payloads.{version_of, kept_of, payload_kept};
 

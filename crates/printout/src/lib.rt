@@ -1,4 +1,6 @@
 // The printed account, item by item: what one item prints and leaves.
+#![tactic(auto)]
+
 ghost use Rattle.std.specs.Prelude.{◌≡◌, ◌+◌, ◌≤◌, true, length};
 ghost use Rattle.lines.specs.Text.{Puts};
 ghost use Rattle.telling.specs.Account.{bad_line};
@@ -18,7 +20,7 @@ pub const PLACES: usize = 4096;
 
 // What is there between two items, beside the three lists of the record: whether a sequence was begun, the record's head and the
 // places in which packets were heard, and how many items and octets went before.
-#[derive(Drop)]
+#[derive(Clone, Copy)]
 pub struct Going {
     pub begun: bool,
     pub head: Head,
@@ -28,7 +30,7 @@ pub struct Going {
 }
 
 // What is there after an item, where its text ends, how many octets it had, and whether the program stops.
-#[derive(Drop)]
+#[derive(Clone, Copy)]
 pub struct Went {
     pub going: Going,
     pub at: usize,

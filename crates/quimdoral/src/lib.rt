@@ -1,5 +1,7 @@
 // The library as C and Rust link it: functions on numbers and slices, each a call of a proved function with the same promise. A slice
 // is passed as a pointer and a length.
+#![tactic(auto)]
+
 mod frames;
 mod joins;
 mod records;

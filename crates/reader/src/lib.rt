@@ -1,5 +1,7 @@
 // SYNC frames read, from any octets: what a frame says, or the first refusal that applies. Each stage of the order of refusals is
 // a function, proved against the same stage of the definition.
+#![tactic(auto)]
+
 mod lengths;
 mod parts;
 

@@ -28,7 +28,7 @@ pub fn least_of(kind: u8) -> usize
 }
 
 // A check that stands in a frame, and what it should be.
-#[derive(Drop)]
+#[derive(Clone, Copy)]
 pub struct Compared {
     pub found: u16,
     pub worked_out: u16,

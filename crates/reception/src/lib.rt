@@ -1,10 +1,12 @@
 // The reception record: what was heard of one sequence, which sendings explain it, and when it is damaged. The definitions are in
 // specs/ and their theory in proofs/; functions on records stand in the crates above.
+#![tactic(auto)]
+
 use units::{Octets, Packets, Refusal};
 
 // The key and the closing of a record. What was heard of each packet number stands in three lent lists beside it: marks (1 heard,
 // 0 not), elapsed octets and payload lengths.
-#[derive(Drop)]
+#[derive(Clone, Copy)]
 pub struct Head {
     pub bearer: u32,
     pub period: u32,
@@ -15,21 +17,21 @@ pub struct Head {
 }
 
 // The answer of a call that takes something into a record.
-#[derive(Drop)]
+#[derive(Clone, Copy)]
 pub enum Taken {
     Done,
     Refused(Refusal),
 }
 
 // An answer, and the head of the record after it.
-#[derive(Drop)]
+#[derive(Clone, Copy)]
 pub struct Taking {
     pub answer: Taken,
     pub head: Head,
 }
 
 // The answer of a join: taken; the lowest packet number of the right record that contradicts, or 65,536 for its closing; or why refused.
-#[derive(Drop)]
+#[derive(Clone, Copy)]
 pub enum Joined {
     Done,
     Contradicted(u32),
@@ -37,14 +39,14 @@ pub enum Joined {
 }
 
 // An answer, and the head of the left record after it.
-#[derive(Drop)]
+#[derive(Clone, Copy)]
 pub struct Joining {
     pub answer: Joined,
     pub head: Head,
 }
 
 // What was sent, heard and missing, in packets and in octets, and in how many gaps.
-#[derive(Drop)]
+#[derive(Clone, Copy)]
 pub struct Report {
     pub sent: Packets,
     pub sent_octets: Octets,
@@ -56,7 +58,7 @@ pub struct Report {
 }
 
 // A report, or why there is none.
-#[derive(Drop)]
+#[derive(Clone, Copy)]
 pub enum Reported {
     Done(Report),
     Refused(Refusal),

@@ -13,7 +13,7 @@ use reception::{Head, Report};
 use units::{Octets, Packets};
 
 // Packets heard and their octets, the number after the last one and the octets before it, and the gaps before the packets heard.
-#[derive(Drop)]
+#[derive(Clone, Copy)]
 pub struct Totals {
     pub heard: Packets,
     pub octets: Octets,

@@ -1,4 +1,6 @@
 // The report on a record: sent, heard and missing packets and octets, and the gaps.
+#![tactic(auto)]
+
 pub mod counting;
 pub mod writing;
 

@@ -14,7 +14,7 @@ use reception::Head;
 use units::{Octets, Packets};
 
 // How far the lists are filled: the place for the next gap, and the packets and octets in those before it.
-#[derive(Drop)]
+#[derive(Clone, Copy)]
 pub struct Filled {
     pub next: usize,
     pub packets: Packets,

@@ -1,5 +1,7 @@
 // Reads the second program's frames, prints a line for each as the second program does, and writes each again from what was read.
 // Standard input has the cases one after another: two octets of the frame's length, the lower one first, and the frame.
+#![tactic(auto)]
+
 mod again;
 mod text;
 
@@ -87,7 +89,7 @@ fn counted(again: u64, same: bool) -> u64 {
 }
 
 // How many octets were passed, and how many frames came out the same so far.
-#[derive(Drop)]
+#[derive(Clone, Copy)]
 struct Passed {
     used: usize,
     again: u64,
@@ -115,7 +117,7 @@ fn pass(input: &[u8], lengths: &mut [u16], room: &mut [u8], text: &mut [u8], bef
 }
 
 // What is there after a read: the octets that were not passed yet, the frames that came out the same, and whether it was the last.
-#[derive(Drop)]
+#[derive(Clone, Copy)]
 struct Done {
     have: usize,
     again: u64,

@@ -1,5 +1,7 @@
 // The sender of one bearer, by value: each call takes the state and gives the next one beside its answer. A refused call gives
 // the state back as it was.
+#![tactic(auto)]
+
 mod state;
 
 ghost use Rattle.std.specs.Prelude.{length};
@@ -21,7 +23,7 @@ use units::refusals::{
 use units::{Octets, Packets, Refusal};
 
 // Before the first sequence of a period, within a sequence, or between two.
-#[derive(Drop)]
+#[derive(Clone, Copy)]
 pub enum Phase {
     Fresh,
     Open,
@@ -29,7 +31,7 @@ pub enum Phase {
 }
 
 // The stamp and the counts of the sequence, and the totals of the period.
-#[derive(Drop)]
+#[derive(Clone, Copy)]
 pub struct Sender {
     pub phase: Phase,
     pub stamp: u32,
@@ -40,21 +42,21 @@ pub struct Sender {
 }
 
 // The answer of a call that writes nothing.
-#[derive(Drop)]
+#[derive(Clone, Copy)]
 pub enum Turned {
     Done,
     Refused(Refusal),
 }
 
 // An answer, and the state after it.
-#[derive(Drop)]
+#[derive(Clone, Copy)]
 pub struct Turning {
     pub answer: Turned,
     pub sender: Sender,
 }
 
 // The answer of a call that writes a frame, and the state after it.
-#[derive(Drop)]
+#[derive(Clone, Copy)]
 pub struct Dispatch {
     pub answer: Written,
     pub sender: Sender,

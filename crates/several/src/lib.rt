@@ -1,5 +1,7 @@
 // A whole sequence heard at once: an empty record, and frames that stand in one row of octets. The record is never judged again, so
 // the cost is that of the frames and of emptying the record.
+#![tactic(auto)]
+
 ghost use Rattle.std.specs.Prelude.{◌≡◌, false, ◌-◌, ◌≤◌, min, length};
 ghost use Rattle.reception.specs.Damage.{Matched};
 ghost use Rattle.reception.specs.Neighbours.{NoneBefore, NoneFrom};

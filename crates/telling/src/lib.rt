@@ -1,4 +1,6 @@
 // The text of an account, put into lent memory line by line.
+#![tactic(auto)]
+
 mod figures;
 mod gaps;
 mod parts;

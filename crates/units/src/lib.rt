@@ -1,5 +1,7 @@
 // What every layer counts and refuses with. Packets and octets are types of their own, so that neither is taken for the other.
 // The house limits and the refusal numbers stand here by name, once for code; specs/ has them once for definitions.
+#![tactic(auto)]
+
 pub mod limits;
 pub mod refusals;
 
@@ -10,16 +12,16 @@ ghost use Rattle.units.specs.Refusals.{tells_checks};
 use refusals::{HEADER_CHECK_WRONG, PAYLOAD_CHECK_WRONG};
 
 // A count of data PDUs.
-#[derive(Drop)]
+#[derive(Clone, Copy)]
 pub struct Packets(pub u32);
 
 // A count of payload octets.
-#[derive(Drop)]
+#[derive(Clone, Copy)]
 pub struct Octets(pub u64);
 
 // Why a call was refused: a number of the refusal table, 1 to 23, of which 19 is not given; and with 4 and 7, the check found and the
 // check worked out. Other refusals have zeros there.
-#[derive(Drop)]
+#[derive(Clone, Copy)]
 pub struct Refusal {
     pub number: u8,
     pub found: u16,

@@ -1,4 +1,6 @@
 // Drives a sender through whole periods of several sequences, and prints each frame and refusal.
+#![tactic(auto)]
+
 mod told;
 
 use sender::{Phase, Sender};

@@ -1,4 +1,6 @@
 // SYNC frames written from given fields. Every refusal is found before the first octet is stored, so refused memory is as it was.
+#![tactic(auto)]
+
 mod frames;
 mod given;
 mod packing;

@@ -1,0 +1,16 @@
+-- `fields::copy` meets its contract: the first j octets are in their place. Assumes nothing.
+use borrow.Author.Rules.{rules}
+use mathlib.Core.Path.{◌≡◌, refl}
+use Prim.Native.Nat.{◌+◌, ◌-◌, ◌<◌, ◌≤◌}
+use native.Mathlib.Omega.{arith}
+use native.Mathlib.Numerals.{add-one}
+use lib.ListN.{length, length-set}
+use lib.Seq.{paste, paste-zero, paste-suc, take-length}
+use Rattle.fields.specs.Runs.{laid}
+use Rattle.fields.proofs.copy.Given as goal
+
+abbrev pub invariant-loop-j : goal.invariant-loop-j
+invariant-loop-j l = (l.j ≤ length l.src) × (length l.out ≡ length l.initial.out) × (l.out ≡ paste l.initial.out l.at l.src l.j)
+
+abbrev pub decreases-loop-j : goal.decreases-loop-j
+decreases-loop-j l = length l.src - l.j
