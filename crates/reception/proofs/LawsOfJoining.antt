@@ -3,7 +3,7 @@
 use Prim.Native.Nat.{ℕ, ◌<◌}
 use mathlib.Core.Path.{◌≡◌, refl, sym, ap, ◌∙◌, subst}
 use mathlib.Core.Logic.{⊎_elim}
-use mathlib.Core.Bool.{Bool, true, false, cond, or_false, or_self, or_comm}
+use mathlib.Core.Bool.{Bool, true, false, cond, or-false, or_self, or_comm}
 use mathlib.Core.List.{List}
 use native.Mathlib.Omega.{arith}
 use lib.ListN.{length, length-replicate}
@@ -158,7 +158,7 @@ union_empty stamp a u =
       marks = λ k lt. cond_zero (is_heard a k) _ (λ f. (unheard_zero stamp a u k lt f).0);
       elapseds = λ k lt. cond_zero (is_heard a k) _ (λ f. (unheard_zero stamp a u k lt f).1);
       sizes = λ k lt. cond_zero (is_heard a k) _ (λ f. (unheard_zero stamp a u k lt f).2);
-      closeds = or_false a.closed;
+      closeds = or-false a.closed;
       counts = cond_zero a.closed _ (λ f. (u.unclosed f).0);
       totals = cond_zero a.closed _ (λ f. (u.unclosed f).1);
     }

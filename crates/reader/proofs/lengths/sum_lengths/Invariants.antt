@@ -1,0 +1,13 @@
+-- `reader::lengths::sum_lengths` meets its contract: the sum of the first i lengths. Assumes nothing.
+use mathlib.Core.Path.{◌≡◌, refl}
+use Prim.Native.Nat.{◌-◌, ◌*◌, ◌≤◌}
+use native.Mathlib.Numerals.{add-one}
+use Rattle.frame.specs.Layout.{sum_lengths}
+use native.Mathlib.Omega.{arith}
+use Rattle.reader.proofs.lengths.sum_lengths.Given as goal
+
+abbrev pub invariant-loop-i : goal.invariant-loop-i
+invariant-loop-i l = (l.i ≤ l.n) × (l.sum ≡ sum_lengths l.frame l.i) × (l.sum ≤ 4095 * l.i)
+
+abbrev pub decreases-loop-i : goal.decreases-loop-i
+decreases-loop-i l = l.n - l.i

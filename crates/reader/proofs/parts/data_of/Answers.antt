@@ -1,0 +1,6 @@
+-- `reader::parts::data_of` meets its contract. Assumes nothing.
+use borrow.Author.Rules.{rules}
+use Rattle.reader.proofs.parts.data_of.Goals as goal
+
+pub returns : goal.returns
+returns c = rw (← c.requires.1, c.field.ensures.0, c.field-2.ensures.0, c.field-3.ensures.0)
