@@ -29,41 +29,41 @@ lists x e says leaves = record { says = rw e says; leaves = rw e leaves }
 told : (c : lts.After-read_frame tie.the-claims reads.Pre reads.Post) → read_frame c.args.frame.now ≡ c.read_frame-read.result
 told c = sym (read_known c.read_frame-read.result (read_frame c.args.frame.now) c.read_frame-read.ensures)
 
-heard : (c : lts.After-read tie.the-claims reads.Pre reads.Post) → read_frame c.args.frame.now ≡ ClosingWithLengths c.read-1.given.0.0
-heard c = told c.before.before ∙ c.read-1.given.1
+heard : (c : lts.Past-After-known_told tie.the-claims reads.Pre reads.Post) → read_frame c.args.frame.now ≡ ClosingWithLengths c.in-ClosingWithLengths.c
+heard c = told c.before ∙ c.in-ClosingWithLengths.is
 
-said : (c : lts.After-read tie.the-claims reads.Pre reads.Post) → LengthsSaid c.args.frame.now c.read-1.given.0.0
+said : (c : lts.Past-After-known_told tie.the-claims reads.Pre reads.Post) → LengthsSaid c.args.frame.now c.in-ClosingWithLengths.c
 said c =
-    lengths_said c.args.frame.now c.read-1.given.0.0 (λ i. (c.shared_slice_known-1.given i).fits) (heard c)
+    lengths_said c.args.frame.now c.in-ClosingWithLengths.c (λ i. (c.shared_slice_known-1.given i).fits) (heard c)
 
 pub returns-then-out-n : goal.returns-then-out-n
 unfolding list_lengths listed
 returns-then-out-n c =
     let h = lt-ltb _ _ c.if-out-n.true in
-    lists _ (heard c.before.before.before.before.before) (simp h) (simp h)
+    lists _ (heard c.before.before.before.before) (simp h) (simp h)
 
 pub list-requires : goal.list-requires
 list-requires c =
-    let d = said c.before.before.before.before.before.before in
+    let d = said c.before.before.before.before.before in
     (d.closing.number, d.there, c.if-out-n.false)
 
 pub returns-else-out-n : goal.returns-else-out-n
 unfolding list_lengths listed
 returns-else-out-n c =
     let h = le-ltb _ _ c.if-out-n.false in
-    lists _ (heard c.before.before.before.before.before.before.before.before.before) (simp h) (simp h c.list.ensures)
+    lists _ (heard c.before.before.before.before.before.before.before.before) (simp h) (simp h c.list.ensures)
 
 pub returns-in-Refused : goal.returns-in-Refused
 unfolding list_lengths listed
 returns-in-Refused c =
-    lists _ (told c.before.before.before.before ∙ c.read-in-Refused-1.given.1) refl refl
+    lists _ (told c.before.before ∙ c.in-Refused.is) refl refl
 
 pub returns-in-Closing : goal.returns-in-Closing
 unfolding list_lengths listed front lengths_of
 returns-in-Closing c =
-    lists _ (told c.before.before.before ∙ c.enum_told-1.given.1) refl refl
+    lists _ (told c.before.before ∙ c.in-Closing.is) refl refl
 
 pub returns-in-Data : goal.returns-in-Data
 unfolding list_lengths listed front lengths_of
 returns-in-Data c =
-    lists _ (told c.before.before.before ∙ c.enum_told-in-Data-1.given.1) refl refl
+    lists _ (told c.before.before ∙ c.in-Data.is) refl refl

@@ -27,5 +27,5 @@ returns c =
     let ls = a.lengths.now in
     let m = 19 + c.filled_octets-end.result - 19 in
     let l : length (packed ls) ≡ 19 + c.filled_octets-end.result - 19 = omega (arith, length_packed ls, c.filled_octets-end.ensures) in
-    let q : take m (drop 19 c.put_lengths.new.1.0) ≡ packed ls = ap (λ (o : List _). take m (drop 19 o)) c.put_lengths.ensures ∙ part_laid old (packed ls) 19 m (omega arith) l in
+    let q : take m (drop 19 c.put_lengths.new.out) ≡ packed ls = ap (λ (o : List _). take m (drop 19 o)) c.put_lengths.ensures ∙ part_laid old (packed ls) 19 m (omega arith) l in
     sealing old (closing_control 3 a.c) (packed ls) 17 refl (omega arith) (c.payload_check-check.ensures ∙ ap payload_check q) c.put_lengths.ensures c.put_closing_control.ensures c.put_checks.ensures

@@ -11,11 +11,8 @@ use Rattle.writer.proofs.parts.put_closing_control.Lts as lts
 use Rattle.writer.proofs.parts.put_closing_control.Tie as tie
 use Rattle.writer.proofs.parts.put_closing_control.Reads as reads
 
-abbrev start : goal.After-put → goal.Start
-start c = c.before.before.before.before.before.before.before.before
-
 -- what stands in front when the period's packets are in
-packets : (c : lts.After-put tie.the-claims reads.Pre reads.Post) → c.put.new.out ≡ front (start c).args.out.now (control_part (start c).args.kind (start c).args.c.stamp (start c).args.c.number.0 (start c).args.c.elapsed.0 ++ octets 3 (start c).args.c.packets.0)
+packets : (c : lts.After-put tie.the-claims reads.Pre reads.Post) → c.put.new.out ≡ front c.args.out.now (control_part c.args.kind c.args.c.stamp c.args.c.number.0 c.args.c.elapsed.0 ++ octets 3 c.args.c.packets.0)
 unfolding octets
 packets c = laid_on _ _ _ 9 refl c.put_control.ensures c.put.ensures
 

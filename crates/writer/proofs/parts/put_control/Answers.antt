@@ -11,25 +11,16 @@ use Rattle.writer.proofs.parts.put_control.Lts as lts
 use Rattle.writer.proofs.parts.put_control.Tie as tie
 use Rattle.writer.proofs.parts.put_control.Reads as reads
 
-abbrev start : goal.After-put → goal.Start
-start c = c.before.before.before
-
-abbrev start2 : goal.After-put2 → goal.Start
-start2 c = start c.before.before.before.before
-
-abbrev start3 : goal.After-put3 → goal.Start
-start3 c = start2 c.before.before.before.before.before
-
-first : (c : lts.After-put tie.the-claims reads.Pre reads.Post) → c.put.new.out ≡ front (start c).args.out.now (octets 1 ((start c).args.kind * 16))
+first : (c : lts.After-put tie.the-claims reads.Pre reads.Post) → c.put.new.out ≡ front c.args.out.now (octets 1 (c.args.kind * 16))
 first c =
-    let v : (start c).args.kind * 16 % 18446744073709551616 ≡ (start c).args.kind * 16 = omega arith in
+    let v : c.args.kind * 16 % 18446744073709551616 ≡ c.args.kind * 16 = omega arith in
     (rw v at c.put.ensures) ∙ laid_first _ _
 
-second : (c : lts.After-put2 tie.the-claims reads.Pre reads.Post) → c.put-2.new.out ≡ front (start2 c).args.out.now (octets 1 ((start2 c).args.kind * 16) ++ octets 2 (start2 c).args.stamp)
+second : (c : lts.After-put2 tie.the-claims reads.Pre reads.Post) → c.put-2.new.out ≡ front c.args.out.now (octets 1 (c.args.kind * 16) ++ octets 2 c.args.stamp)
 unfolding octets
 second c = laid_on _ _ _ 1 refl (first c.before.before.before.before) c.put-2.ensures
 
-third : (c : lts.After-put3 tie.the-claims reads.Pre reads.Post) → c.put-3.new.out ≡ front (start3 c).args.out.now (octets 1 ((start3 c).args.kind * 16) ++ octets 2 (start3 c).args.stamp ++ octets 2 (start3 c).args.number.0)
+third : (c : lts.After-put3 tie.the-claims reads.Pre reads.Post) → c.put-3.new.out ≡ front c.args.out.now (octets 1 (c.args.kind * 16) ++ octets 2 c.args.stamp ++ octets 2 c.args.number.0)
 unfolding octets
 third c = laid_on _ _ _ 3 refl (second c.before.before.before.before.before) c.put-3.ensures
 
