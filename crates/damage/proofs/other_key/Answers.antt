@@ -6,24 +6,20 @@ use lib.Dec.{eqb}
 use Rattle.reception.specs.declared.Head.{Head}
 use borrow.Author.Tests.{eq-eqb, ne_eqb}
 use Rattle.reception.specs.Hearing.{other_key}
-use Rattle.damage.proofs.other_key.Statement.{statement}
-use Rattle.damage.proofs.other_key.Tie as tie
+use Rattle.damage.proofs.other_key.Goals as goal
 
 -- of a key, the stamp decides where bearer and period are the record's
 by_stamp : (h : Head) (bearer period stamp : ℕ) → h.bearer ≡ bearer → h.period ≡ period → not (eqb h.stamp stamp) ≡ other_key h bearer period stamp
 unfolding other_key
 by_stamp h bearer period stamp b p = rw (eq-eqb h.bearer bearer b, eq-eqb h.period period p) refl
 
-returns : tie.Need-returns
+pub returns-then-h-bearer : goal.returns-then-h-bearer
 unfolding other_key
-returns c = simp (ne_eqb _ _ c.if1.true)
+returns-then-h-bearer c = simp (ne_eqb _ _ c.if-h-bearer.true)
 
-returns-2 : tie.Need-returns-2
+pub returns-then-h-period : goal.returns-then-h-period
 unfolding other_key
-returns-2 c = simp (eq-eqb _ _ c.before.before.if1.false, ne_eqb _ _ c.if2.true)
+returns-then-h-period c = simp (eq-eqb _ _ c.if-h-bearer.false, ne_eqb _ _ c.if-h-period.true)
 
-returns-3 : tie.Need-returns-3
-returns-3 c = by_stamp _ _ _ _ c.before.before.before.if1.false c.before.if2.false
-
-pub other_key_spec : {M : Type 1} → statement M
-other_key_spec = tie.close (tie.spec returns returns-2 returns-3)
+pub returns : goal.returns
+returns c = by_stamp _ _ _ _ c.if-h-bearer.false c.if-h-period.false

@@ -1,0 +1,6 @@
+-- `damage::is_damaged` meets its contract. Assumes nothing.
+use borrow.Author.Rules.{rules}
+use Rattle.damage.proofs.is_damaged.Goals as goal
+
+pub returns : goal.returns
+returns c = c.judge-j.ensures.says
