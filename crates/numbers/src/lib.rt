@@ -2,6 +2,5 @@
 // a value are one number, and how numbers stand in front of a lent list.
 #![tactic(auto)]
 
-
 // The largest number of 32 bits.
 pub const WIDEST: u64 = 4294967295;

@@ -1,0 +1,10 @@
+-- `hearing::looking::end_below` meets its contract. Assumes nothing.
+use Rattle.hearing.proofs.NeighboursFound.{Down, down_start, down_none, down_found, down_on}
+use borrow.Author.Rules.{rules}
+use Rattle.hearing.proofs.looking.end_below.Given as goal
+
+abbrev pub invariant-loop-j : goal.invariant-loop-j
+invariant-loop-j l = Down l.first l.marks l.elapsed l.sizes l.k l.j
+
+abbrev pub decreases-loop-j : goal.decreases-loop-j
+decreases-loop-j l = l.j

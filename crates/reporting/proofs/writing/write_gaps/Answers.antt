@@ -1,0 +1,57 @@
+-- `reporting::writing::write_gaps` meets its contract. Assumes nothing.
+use Prim.Native.Nat.{◌-◌}
+use mathlib.Core.Path.{◌∙◌}
+use mathlib.Core.Logic.{⊎_elim}
+use Rattle.reception.specs.Sendings.{held_in}
+use Rattle.reception.proofs.ReportAccounts.{undamaged_sent}
+use Rattle.reporting.proofs.CountedReport.{sound}
+use Rattle.reporting.proofs.GapsLeft.{back, up, last_back, last_up}
+use Rattle.reporting.proofs.GapsWritten.{Writing, writing_start, room_here, heard_on, unheard_on, last_room, all_missing, all_written}
+use borrow.Author.Rules.{rules}
+use Rattle.reporting.proofs.writing.write_gaps.Goals as goal
+use Rattle.reporting.proofs.writing.write_gaps.Goals.{then-marks-k-eq1, else-marks-k-eq1}
+
+pub loop-k-init : goal.loop-k-init
+loop-k-init c =
+    let p = c.requires in
+    writing_start _ _ _ _ _ (undamaged_sent _ _ (sound c.args.h _ _ _ p.cases p.sizes_value)) p.cases.room p.n_value p.room
+
+pub put-t-requires : goal.put-t-requires
+put-t-requires c =
+    let g = c.loop-k.invariant in record { i_le_k = (back _ _ _ _ _ g.going, up _ _ _ _ _ g.going c.loop-k-test.true c.if-marks-k-eq1.true _ _ c.from_u32-e.ensures.0 c.from_u16-l.ensures.0); packets_le_i = (g.missing.packets_few, g.missing.octets_few); room = room_here _ _ _ _ _ _ _ _ _ _ _ _ g c.loop-k-test.true c.if-marks-k-eq1.true _ _ c.from_u32-e.ensures.0 c.from_u16-l.ensures.0 }
+
+pub loop-k-preserved : goal.loop-k-preserved
+loop-k-preserved c =
+    elim c.if-marks-k-eq1.branch [
+      then-marks-k-eq1 w ↦ rw (w.firsts-is, w.counts-is, w.octets-is, w.i-is, w.a-is, w.t-is) (
+        heard_on _ _ _ _ _ _ _ _ _ _ _ _ c.loop-k.invariant c.loop-k-test.true w.if-marks-k-eq1.true _ _ w.from_u32-e.ensures.0 w.from_u16-l.ensures.0 _ _ _ _ w.put-t.ensures.puts w.put-t.ensures.packets_le_k
+      )
+    | else-marks-k-eq1 w ↦
+      rw (w.firsts-is, w.counts-is, w.octets-is, w.i-is, w.a-is, w.t-is) (unheard_on _ _ _ _ _ _ _ _ _ _ _ _ c.loop-k.invariant c.loop-k-test.true w.if-marks-k-eq1.false)
+    ]
+
+pub put-requires : goal.put-requires
+put-requires c =
+    let g = c.loop-k.invariant in
+    let q = c.sent_octets-total.ensures in
+    let le = c.loop-k-test.false in
+    record { i_le_k = (last_back _ _ _ _ _ g.going le _ q, last_up _ _ _ _ _ g.going le _ q); packets_le_i = (g.missing.packets_few, g.missing.octets_few); room = last_room _ _ _ _ _ _ _ _ _ _ _ _ g le _ q }
+
+pub shape_of-firsts : goal.shape_of-firsts
+shape_of-firsts c =
+    c.put.auto.firsts ∙ c.loop-k.invariant.firsts_laid.long
+
+pub shape_of-counts : goal.shape_of-counts
+shape_of-counts c =
+    c.put.auto.counts ∙ c.loop-k.invariant.counts_laid.long
+
+pub shape_of-octets : goal.shape_of-octets
+shape_of-octets c =
+    c.put.auto.octets ∙ c.loop-k.invariant.octets_laid.long
+
+pub returns : goal.returns
+returns c =
+    let g = c.loop-k.invariant in
+    let le = c.loop-k-test.false in
+    let q = c.sent_octets-total.ensures in
+    record { packets_value = all_missing _ _ _ _ _ _ _ _ _ _ _ _ g le _ q _ _ _ _ c.put.ensures.puts; firsts_after = all_written _ _ _ _ _ _ _ _ _ _ _ _ g le _ q _ _ _ _ c.put.ensures.puts }
