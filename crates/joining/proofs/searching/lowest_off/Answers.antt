@@ -1,0 +1,46 @@
+-- `joining::searching::lowest_off` meets its contract. Assumes nothing.
+use Prim.Native.Nat.{◌-◌}
+use mathlib.Core.Logic.{⊎_elim}
+use lib.ListN.{length}
+use native.Mathlib.Omega.{arith}
+use Rattle.joining.proofs.BesideFound.{Looking, look_on, beside_found, walks_past, walks_on}
+use Rattle.joining.proofs.LowestSearched.{Searching, search_start, search_on, search_off, search_none}
+use borrow.Author.Rules.{rules}
+use Rattle.joining.proofs.searching.lowest_off.Goals as goal
+
+pub loop-k-init : goal.loop-k-init
+loop-k-init c = search_start _ _ _ _ _ _ _
+
+pub loop-next-init : goal.loop-next-init
+loop-next-init c = c.loop-k.invariant.walked.along
+
+pub overflow_add-next : goal.overflow_add-next
+overflow_add-next c =
+    omega (arith, (look_on _ _ _ c.loop-next.invariant _ c.is_unheard.ensures c.loop-next-test.true).inside, c.requires.cases.room)
+
+pub loop-next-smaller : goal.loop-next-smaller
+loop-next-smaller c = omega (arith, (look_on _ _ _ c.loop-next.invariant _ c.is_unheard.ensures c.loop-next-test.true).inside)
+
+pub loop-next-preserved : goal.loop-next-preserved
+loop-next-preserved c = look_on _ _ _ c.loop-next.invariant _ c.is_unheard.ensures c.loop-next-test.true
+
+pub is_off-requires : goal.is_off-requires
+is_off-requires c =
+    let p = c.requires in
+    let b = beside_found _ _ _ _ _ _ _ _ c.loop-k.invariant.walked c.loop-next.invariant _ c.is_unheard.ensures c.loop-next-test.false in
+    record { cases = p.cases; sizes_value = p.sizes_value; beside_is = b; k_in_bounds = (c.if-marks-k.false, c.from_u32-e.ensures.1, c.from_u16-l.ensures.1) }
+
+pub loop-k-preserved : goal.loop-k-preserved
+loop-k-preserved c =
+    let b = beside_found _ _ _ _ _ _ _ _ c.loop-k.invariant.walked c.loop-next.invariant _ c.is_unheard.ensures c.loop-next-test.false in
+    let on = search_on _ _ _ _ _ _ _ _ _ _ _ c.loop-k.invariant c.if-marks-k.false _ _ c.from_u32-e.ensures.0 c.from_u16-l.ensures.0 _ c.is_off.ensures c.if-is_off.false in
+    ⊎_elim
+    (λ y. rw (y.2, y.3) (on _ _ _ (walks_on _ _ _ _ _ _ _ b y.0.taken c.if-marks-k.false _ _ y.1.ensures.0 y.1.ensures.1)))
+    (λ y. rw (y.1, y.2) (on _ _ _ (walks_past _ _ _ _ _ _ _ b y.0.left))) c.if-next-k.branch
+
+pub returns-then-marks-k : goal.returns-then-marks-k
+returns-then-marks-k c = search_none _ _ _ _ _ _ _ _ _ _ _ c.loop-k.invariant c.if-marks-k.true
+
+pub returns-then-is_off : goal.returns-then-is_off
+returns-then-is_off c =
+    search_off _ _ _ _ _ _ _ _ _ _ _ c.loop-k.invariant c.if-marks-k.false _ _ c.from_u32-e.ensures.0 c.from_u16-l.ensures.0 _ c.is_off.ensures c.if-is_off.true

@@ -1,0 +1,22 @@
+-- `joining::searching::lowest_off` meets its contract. Assumes nothing.
+use Prim.Native.Nat.{◌-◌}
+use mathlib.Core.Logic.{⊎_elim}
+use lib.ListN.{length}
+use native.Mathlib.Omega.{arith}
+use Rattle.joining.proofs.BesideFound.{Looking, look_on, beside_found, walks_past, walks_on}
+use Rattle.joining.proofs.LowestSearched.{Searching, search_start, search_on, search_off, search_none}
+use borrow.Author.Rules.{rules}
+use Rattle.joining.proofs.searching.lowest_off.Given as goal
+
+abbrev pub invariant-loop-next : goal.invariant-loop-next
+invariant-loop-next l = Looking l.marks l.k l.next
+
+abbrev pub decreases-loop-next : goal.decreases-loop-next
+decreases-loop-next l = length l.marks - l.next
+
+abbrev pub invariant-loop-k : goal.invariant-loop-k
+invariant-loop-k l =
+    Searching l.h l.marks l.elapsed l.sizes l.r_marks l.r_elapsed l.r_sizes l.last.number.0 l.last.octets.0 l.next l.k
+
+abbrev pub decreases-loop-k : goal.decreases-loop-k
+decreases-loop-k l = length l.marks - l.k

@@ -1,0 +1,19 @@
+-- `several::hear_frames` meets its contract. Assumes nothing.
+use Prim.Native.Nat.{◌-◌}
+use lib.ListN.{length}
+use Rattle.reception.specs.Hearing.{kept_in}
+use Rattle.reception.proofs.KeptAsHeld.{matched_lists}
+use Rattle.reception.proofs.WhatHearingAdds.{sound_lists}
+use Rattle.several.proofs.HeardSoFar.{HeardSoFar, none_yet, one_more_at, all_heard}
+use Rattle.several.proofs.PartOfRow.{part_is}
+use native.Mathlib.Omega.{arith}
+use borrow.Author.Rules.{rules}
+use Rattle.several.proofs.hear_frames.Given as goal
+
+abbrev pub invariant-loop-i : goal.invariant-loop-i
+invariant-loop-i l =
+    HeardSoFar l.bearer l.period l.octets l.ends (kept_in l.initial.head l.initial.marks l.initial.elapsed l.initial.sizes) l.initial.answers l.head l.marks l.elapsed l.sizes l.answers l.span.first l.span.end l.from l.i
+
+abbrev pub decreases-loop-i : goal.decreases-loop-i
+decreases-loop-i l =
+    length l.ends - l.i
