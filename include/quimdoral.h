@@ -1,7 +1,7 @@
 /*
  * Quimdoral: SYNC frames of 3GPP TS 25.446 v17.0.0 on the M1 interface, and the account of what was received of them.
  *
- * Link target/staticlib/libquimdoral.a, which `rt staticlib quimdoral` writes (x86-64 Linux). C99 and C++.
+ * Link crates/quimdoral/out/libquimdoral.a, which `rt lib` in crates/quimdoral writes (x86-64 Linux). C99 and C++.
  *
  * What every function keeps to:
  *

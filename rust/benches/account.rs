@@ -122,8 +122,8 @@ impl Drop for Temporary {
 }
 
 fn main() {
-    let ours = Path::new(env!("CARGO_MANIFEST_DIR")).join("../target/bin/account");
-    assert!(ours.exists(), "the program is not there: run `rt check account` in the repository's root first");
+    let ours = Path::new(env!("CARGO_MANIFEST_DIR")).join("../crates/account/out/account");
+    assert!(ours.exists(), "the program is not there: run `rt run` in crates/account first");
     let programs = [&ours, Path::new(env!("CARGO_BIN_EXE_plain_account"))];
     let reader = Reader::new();
     println!(

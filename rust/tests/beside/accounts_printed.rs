@@ -25,8 +25,8 @@ fn repository() -> PathBuf {
 }
 
 pub fn program() -> PathBuf {
-    let program = repository().join("target/bin/account");
-    assert!(program.exists(), "the program is not there: run `rt check account` in the repository's root first");
+    let program = repository().join("crates/account/out/account");
+    assert!(program.exists(), "the program is not there: run `rt run` in crates/account first");
     program
 }
 
