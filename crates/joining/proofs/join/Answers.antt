@@ -10,7 +10,7 @@ pub returns-then-capacities_off : goal.returns-then-capacities_off
 returns-then-capacities_off c =
     let a = c.args in
     refused_as _ _
-    (join_unmatched _ (kept_in a.g a.other-marks.now a.other-elapsed.now a.other-sizes.now) (sym c.capacities_off.ensures ∙ c.if-capacities_off.true)) c.refused.ensures
+    (join_unmatched _ (kept_in a.g a.other_marks.now a.other_elapsed.now a.other_sizes.now) (sym c.capacities_off.ensures ∙ c.if-capacities_off.true)) c.refused.ensures
 
 pub join_matched-requires : goal.join_matched-requires
 join_matched-requires c = sym c.capacities_off.ensures ∙ c.if-capacities_off.false

@@ -1,7 +1,7 @@
 -- `joining::join_matched` meets its contract. Assumes nothing.
 use mathlib.Core.Bool.{false}
 use mathlib.Core.Path.{◌≡◌, sym, ◌∙◌}
-use Rattle.reception.specs.Hearing.{Kept, kept_in, damaged_kept}
+use Rattle.reception.specs.Hearing.{kept_in, damaged_kept}
 use Rattle.joining.proofs.Answered.{refused_as}
 use Rattle.joining.proofs.Judged.{left_matched, right_matched, left_damaged, right_damaged, join_other}
 use borrow.Author.Rules.{rules}
@@ -10,28 +10,22 @@ use Rattle.joining.proofs.join_matched.Lts as lts
 use Rattle.joining.proofs.join_matched.Tie as tie
 use Rattle.joining.proofs.join_matched.Reads as reads
 
-abbrev left-of : goal.Start → Kept
-left-of s = kept_in s.args.h s.args.marks.now s.args.elapsed.now s.args.sizes.now
-
-abbrev right_of : goal.Start → Kept
-right_of s = kept_in s.args.g s.args.r-marks.now s.args.r-elapsed.now s.args.r-sizes.now
-
-left_sound : (e : lts.Else1 tie.the-claims reads.Pre reads.Post tie.handed_clauses) → damaged_kept (left-of e) ≡ false
+left_sound : (e : lts.Else1 tie.the-claims reads.Pre reads.Post tie.handed_clauses) → damaged_kept (kept_in e.args.h e.args.marks.now e.args.elapsed.now e.args.sizes.now) ≡ false
 left_sound e = sym e.is_damaged.ensures ∙ e.if-is_damaged.false
 
 -- nor the right
-right_sound : (f : lts.Else2 tie.the-claims reads.Pre reads.Post tie.handed_clauses) → damaged_kept (right_of f.before.before) ≡ false
+right_sound : (f : lts.Else2 tie.the-claims reads.Pre reads.Post tie.handed_clauses) → damaged_kept (kept_in f.args.g f.args.r_marks.now f.args.r_elapsed.now f.args.r_sizes.now) ≡ false
 right_sound f = sym f.is_damaged-2.ensures ∙ f.if-is_damaged-2.false
 
 pub is_damaged-requires : goal.is_damaged-requires
-is_damaged-requires c = left_matched (left-of c) (right_of c) c.requires
+is_damaged-requires c = left_matched (kept_in c.args.h c.args.marks.now c.args.elapsed.now c.args.sizes.now) (kept_in c.args.g c.args.r_marks.now c.args.r_elapsed.now c.args.r_sizes.now) c.requires
 
 pub returns-then-is_damaged : goal.returns-then-is_damaged
 returns-then-is_damaged c =
-    refused_as _ _ (left_damaged (left-of c) (right_of c) c.requires (sym c.is_damaged.ensures ∙ c.if-is_damaged.true)) c.refused.ensures
+    refused_as _ _ (left_damaged _ _ c.requires (sym c.is_damaged.ensures ∙ c.if-is_damaged.true)) c.refused.ensures
 
 pub is_damaged-requires-2 : goal.is_damaged-requires-2
-is_damaged-requires-2 c = let s = start_of c in right_matched (left-of s) (right_of s) s.pre
+is_damaged-requires-2 c = right_matched (kept_in c.args.h c.args.marks.now c.args.elapsed.now c.args.sizes.now) (kept_in c.args.g c.args.r_marks.now c.args.r_elapsed.now c.args.r_sizes.now) c.requires
 
 pub returns-then-is_damaged-2 : goal.returns-then-is_damaged-2
 returns-then-is_damaged-2 c =

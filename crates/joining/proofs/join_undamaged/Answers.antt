@@ -1,7 +1,7 @@
 -- `joining::join_undamaged` meets its contract. Assumes nothing.
 use mathlib.Core.Path.{refl, sym, ◌∙◌}
 use native.Mathlib.Omega.{arith}
-use Rattle.reception.specs.Hearing.{Kept, kept_in}
+use Rattle.reception.specs.Hearing.{kept_in}
 use Rattle.reception.proofs.JoinJudged.{Joinable}
 use Rattle.reception.proofs.WhatHearingAdds.{sound_lists}
 use Rattle.hearing.proofs.Judged.{explained}
@@ -14,15 +14,9 @@ use Rattle.joining.proofs.join_undamaged.Lts as lts
 use Rattle.joining.proofs.join_undamaged.Tie as tie
 use Rattle.joining.proofs.join_undamaged.Reads as reads
 
-abbrev left-of : goal.Start → Kept
-left-of s = kept_in s.args.h s.args.marks.now s.args.elapsed.now s.args.sizes.now
-
-abbrev right_of : goal.Start → Kept
-right_of s = kept_in s.args.g s.args.r-marks.now s.args.r-elapsed.now s.args.r-sizes.now
-
 -- the two can be joined
-both : (s : lts.Start tie.the-claims reads.Pre reads.Post tie.handed_clauses) → Joinable (left-of s) (right_of s)
-both s = let p = s.requires in joinable (left-of s) (right_of s) p.r_sizes_value p.sizes_value p.r_sizes_value_2 p.r_sizes_value_3
+both : (s : lts.Start tie.the-claims reads.Pre reads.Post tie.handed_clauses) → Joinable (kept_in s.args.h s.args.marks.now s.args.elapsed.now s.args.sizes.now) (kept_in s.args.g s.args.r_marks.now s.args.r_elapsed.now s.args.r_sizes.now)
+both s = let p = s.requires in joinable _ _ p.r_sizes_value p.sizes_value p.r_sizes_value_2 p.r_sizes_value_3
 
 pub lowest_off-k-requires : goal.lowest_off-k-requires
 lowest_off-k-requires c =

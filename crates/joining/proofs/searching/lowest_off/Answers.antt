@@ -7,6 +7,7 @@ use Rattle.joining.proofs.BesideFound.{Looking, look_on, beside_found, walks_pas
 use Rattle.joining.proofs.LowestSearched.{Searching, search_start, search_on, search_off, search_none}
 use borrow.Author.Rules.{rules}
 use Rattle.joining.proofs.searching.lowest_off.Goals as goal
+use Rattle.joining.proofs.searching.lowest_off.Goals.{then-next-k, else-next-k}
 
 pub loop-k-init : goal.loop-k-init
 loop-k-init c = search_start _ _ _ _ _ _ _
@@ -34,9 +35,10 @@ pub loop-k-preserved : goal.loop-k-preserved
 loop-k-preserved c =
     let b = beside_found _ _ _ _ _ _ _ _ c.loop-k.invariant.walked c.loop-next.invariant _ c.is_unheard.ensures c.loop-next-test.false in
     let on = search_on _ _ _ _ _ _ _ _ _ _ _ c.loop-k.invariant c.if-marks-k.false _ _ c.from_u32-e.ensures.0 c.from_u16-l.ensures.0 _ c.is_off.ensures c.if-is_off.false in
-    ⊎_elim
-    (λ y. rw (y.2, y.3) (on _ _ _ (walks_on _ _ _ _ _ _ _ b y.0.taken c.if-marks-k.false _ _ y.1.ensures.0 y.1.ensures.1)))
-    (λ y. rw (y.1, y.2) (on _ _ _ (walks_past _ _ _ _ _ _ _ b y.0.left))) c.if-next-k.branch
+    elim c.if-next-k.branch [
+      then-next-k w ↦ rw (w.last-is, w.next-is) (on _ _ _ (walks_on _ _ _ _ _ _ _ b w.if-next-k.true c.if-marks-k.false _ _ w.end_of-last.ensures.0 w.end_of-last.ensures.1))
+    | else-next-k w ↦ rw (w.last-is, w.next-is) (on _ _ _ (walks_past _ _ _ _ _ _ _ b w.if-next-k.false))
+    ]
 
 pub returns-then-marks-k : goal.returns-then-marks-k
 returns-then-marks-k c = search_none _ _ _ _ _ _ _ _ _ _ _ c.loop-k.invariant c.if-marks-k.true
