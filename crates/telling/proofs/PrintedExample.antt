@@ -62,7 +62,7 @@ text_of h r = sequence_line h ++ figure_lines r ++ gap_lines (gaps_of r) ++ line
 
 -- the figures, with what was heard as a number
 text_is : (c : ℕ) → text_of (closed_head (open_head 7 3 0) 1 1) (closed_one c) ≡ printed
-unfolding text_of sequence_line gap_lines gaps_from digits_within decimal field fields_of line
+unfolding text_of sequence_line gap_lines gaps_from digits_within decimal field fields_of line heard_to heard_octets_to
 text_is c = rw (no_packets c, no_octets c) refl
 
 -- what was kept of it prints so

@@ -1,0 +1,11 @@
+-- `numbers_frames::data_in_one` meets its contract. Assumes nothing.
+use Rattle.numbers.proofs.InOne.{as_few}
+use Rattle.numbers_frames.proofs.FramesCounted.{few_data, wrote}
+use borrow.Author.Rules.{rules}
+use Rattle.numbers_frames.proofs.data_in_one.Goals as goal
+
+pub written_in_one-requires : goal.written_in_one-requires
+written_in_one-requires c = as_few _ _ c.write_data-written.ensures.says (few_data _ _ _ _ _)
+
+pub returns : goal.returns
+returns c = wrote _ _ _ _ _ _ c.write_data-written.ensures c.written_in_one.ensures
