@@ -1,0 +1,55 @@
+-- `passing::pass_items` meets its contract. Assumes nothing.
+use Prim.Native.Nat.{◌+◌, ◌-◌}
+use mathlib.Core.Path.{sym, ◌∙◌}
+use mathlib.Core.Bool.{cond}
+use Rattle.fields.proofs.Laying.{to_end}
+use Rattle.printout.specs.Stepping.{between_in}
+use Rattle.passing.proofs.OneMore.{Passing, goes_on_means, passing_start, passing_done, used_less, passing_on, passes_less}
+use native.Mathlib.Omega.{arith}
+use borrow.Author.Rules.{rules}
+use Rattle.passing.proofs.pass_items.Goals as goal
+
+pub loop-stops-init : goal.loop-stops-init
+loop-stops-init c = passing_start _ _ _ _ _ _ _ c.requires
+
+pub step-w-requires : goal.step-w-requires
+step-w-requires c =
+    let i = c.loop-stops.invariant in
+    let o = goes_on_means _ _ _ _ (sym c.goes_on.ensures ∙ c.loop-stops-test.true) in
+    record { ready = i.ready; most_text_in_bounds = omega (arith, i.at_in, o.1) }
+
+pub overflow_sub-left : goal.overflow_sub-left
+overflow_sub-left c =
+    let i = c.loop-stops.invariant in
+    let l = to_end _ c.args.input.now in
+    used_less _ _ _ _ _ _ _ _ _ _ _ _ _ _ _ i _ _ _ _ _ _ l c.step-w.ensures
+
+pub loop-stops-smaller : goal.loop-stops-smaller
+loop-stops-smaller c =
+    let i = c.loop-stops.invariant in
+    let l = to_end _ c.args.input.now in
+    passes_less _ _ _ _ _ _ _ _ _ _ _ _ _ _ _ i _ _ _ _ _ _ l c.step-w.ensures _ (sym c.goes_on.ensures ∙ c.loop-stops-test.true)
+
+pub loop-stops-preserved : goal.loop-stops-preserved
+loop-stops-preserved c =
+    let i = c.loop-stops.invariant in
+    let l = to_end _ c.args.input.now in
+    let k = c.step-w.auto in
+    passing_on _ _ _ _ _ _ _ _ _ _ _ _ _ _ _ i _ _ _ _ _ _ l c.step-w.ensures _ (sym c.goes_on.ensures ∙ c.loop-stops-test.true) k.marks k.elapsed k.sizes k.out
+
+pub shape_of-marks : goal.shape_of-marks
+shape_of-marks c = c.loop-stops.invariant.marks_same
+
+pub shape_of-elapsed : goal.shape_of-elapsed
+shape_of-elapsed c = c.loop-stops.invariant.elapsed_same
+
+pub shape_of-sizes : goal.shape_of-sizes
+shape_of-sizes c = c.loop-stops.invariant.sizes_same
+
+pub shape_of-out : goal.shape_of-out
+shape_of-out c = c.loop-stops.invariant.out_same
+
+pub returns : goal.returns
+returns c =
+    let p = passing_done _ _ _ _ _ _ _ _ _ _ _ _ _ _ _ c.loop-stops.invariant (sym c.goes_on.ensures ∙ c.loop-stops-test.false) in
+    record { passed = p.0; stops_after = p.1 }

@@ -1,0 +1,18 @@
+-- `passing::pass_items` meets its contract. Assumes nothing.
+use Prim.Native.Nat.{◌+◌, ◌-◌}
+use mathlib.Core.Path.{sym, ◌∙◌}
+use mathlib.Core.Bool.{cond}
+use Rattle.fields.proofs.Laying.{to_end}
+use Rattle.printout.specs.Stepping.{between_in}
+use Rattle.passing.proofs.OneMore.{Passing, goes_on_means, passing_start, passing_done, used_less, passing_on, passes_less}
+use native.Mathlib.Omega.{arith}
+use borrow.Author.Rules.{rules}
+use Rattle.passing.proofs.pass_items.Given as goal
+
+abbrev pub invariant-loop-stops : goal.invariant-loop-stops
+invariant-loop-stops l =
+    Passing (between_in l.initial.going l.initial.marks l.initial.elapsed l.initial.sizes) l.input l.ended l.initial.marks l.initial.elapsed l.initial.sizes l.initial.out l.marks l.elapsed l.sizes l.out l.going l.at l.left l.stops
+
+abbrev pub decreases-loop-stops : goal.decreases-loop-stops
+decreases-loop-stops l =
+    cond l.stops 0 (1 + l.left)
