@@ -4,7 +4,6 @@ use Prim.Native.Nat.{ℕ}
 use Rattle.checks.specs.Inside.{feed}
 use Rattle.checks.proofs.Rows.{check_passed}
 use Rattle.checks.proofs.ShortSums.{header, header_64, header_31}
-use borrow.Author.Rules.{rules}
 use Rattle.checks.proofs.header_check.Goals as goal
 
 pub returns : goal.returns

@@ -4,7 +4,6 @@ use Prim.Native.Nat.{ℕ}
 use Rattle.checks.specs.Inside.{feed}
 use Rattle.checks.proofs.Rows.{check_passed, check_none}
 use Rattle.checks.proofs.ShortSums.{payload}
-use borrow.Author.Rules.{rules}
 use Rattle.checks.proofs.payload_check.Goals as goal
 
 pub returns-then-s-eq0 : goal.returns-then-s-eq0

@@ -1,5 +1,5 @@
 -- `clock::due` meets its contract. Assumes nothing.
-use Rattle.std.proofs.Common.{arith, rules, le-ltb, lt-ltb}
+use Rattle.std.proofs.Common.{arith, le-ltb, lt-ltb}
 use Rattle.clock.specs.Clock.{due_at}
 use Rattle.clock.proofs.due.Goals as goal
 

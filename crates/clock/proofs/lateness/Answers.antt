@@ -1,5 +1,5 @@
 -- `clock::lateness` meets its contract: the wrapped difference is how far the arrival is past the due tick. Assumes nothing.
-use Rattle.std.proofs.Common.{sym, ◌∙◌, arith, w32, rules}
+use Rattle.std.proofs.Common.{sym, ◌∙◌, arith, w32}
 use mir.ValLaws.{to_z_pos}
 use Rattle.clock.specs.Clock.{late}
 use Rattle.clock.proofs.Wrapping.{past_only}

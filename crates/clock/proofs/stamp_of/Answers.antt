@@ -1,5 +1,5 @@
 -- `clock::stamp_of` meets its contract: the wrapped difference is how far the tick is past the start. Assumes nothing.
-use Rattle.std.proofs.Common.{arith, rules, le-leb}
+use Rattle.std.proofs.Common.{arith, le-leb}
 use borrow.Author.Tests.{lt-leb}
 use Rattle.clock.specs.Clock.{stamp_of}
 use Rattle.clock.proofs.Wrapping.{past_only}

@@ -1,7 +1,6 @@
 -- `counts::closing_wrong` meets its contract. Assumes nothing.
 use borrow.Author.Tests.{lt-ltb, le-ltb}
 use Rattle.frame.specs.Counts.{closing_wrong}
-use borrow.Author.Rules.{rules}
 use Rattle.counts.proofs.closing_wrong.Goals as goal
 
 pub returns-then-n-e : goal.returns-then-n-e

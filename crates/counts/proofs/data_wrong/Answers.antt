@@ -1,7 +1,6 @@
 -- `counts::data_wrong` meets its contract. Assumes nothing.
 use borrow.Author.Tests.{le-leb, lt-leb}
 use Rattle.frame.specs.Counts.{data_wrong}
-use borrow.Author.Rules.{rules}
 use Rattle.counts.proofs.data_wrong.Goals as goal
 
 pub returns-then-n-ge-MOST_IN_SEQUENCE : goal.returns-then-n-ge-MOST_IN_SEQUENCE

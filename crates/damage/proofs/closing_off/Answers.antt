@@ -2,7 +2,6 @@
 use borrow.Author.Tests.{lt-ltb, le-ltb, eq-eqb, ne_eqb}
 use Rattle.frame.specs.Counts.{some_of}
 use Rattle.reception.specs.Damage.{closing_off}
-use borrow.Author.Rules.{rules}
 use Rattle.damage.proofs.closing_off.Goals as goal
 
 pub returns-then-capacity-h : goal.returns-then-capacity-h

@@ -1,5 +1,4 @@
 -- `damage::is_damaged` meets its contract. Assumes nothing.
-use borrow.Author.Rules.{rules}
 use Rattle.damage.proofs.is_damaged.Goals as goal
 
 pub returns : goal.returns

@@ -1,7 +1,6 @@
 -- `damage::is_fit` meets its contract. Assumes nothing.
 use borrow.Author.Tests.{lt-leb, le-leb}
 use Rattle.reception.specs.Walk.{fits}
-use borrow.Author.Rules.{rules}
 use Rattle.damage.proofs.is_fit.Goals as goal
 
 pub returns-then-l-gt-MOST_PAYLOAD : goal.returns-then-l-gt-MOST_PAYLOAD

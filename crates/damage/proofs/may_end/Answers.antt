@@ -1,7 +1,6 @@
 -- `damage::may_end` meets its contract. Assumes nothing.
 use borrow.Author.Tests.{lt-leb, le-leb}
 use Rattle.reception.specs.Walk.{may_end}
-use borrow.Author.Rules.{rules}
 use Rattle.damage.proofs.may_end.Goals as goal
 
 pub returns-then-h-i : goal.returns-then-h-i

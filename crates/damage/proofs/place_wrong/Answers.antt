@@ -1,6 +1,5 @@
 -- `damage::place_wrong` meets its contract. Assumes nothing.
 use Prim.Native.Nat.{◌+◌}
-use borrow.Author.Rules.{rules}
 use borrow.Author.Tests.{eq-eqb}
 use native.Mathlib.Omega.{arith}
 use Rattle.reception.specs.Damage.{place_wrong}

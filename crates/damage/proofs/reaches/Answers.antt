@@ -2,7 +2,6 @@
 use borrow.Author.Tests.{lt-leb}
 use Rattle.reception.specs.Walk.{reach}
 use Rattle.reception.proofs.Points.{by_distance}
-use borrow.Author.Rules.{rules}
 use Rattle.damage.proofs.reaches.Goals as goal
 
 pub returns-then-e-a : goal.returns-then-e-a

@@ -1,12 +1,8 @@
 -- `fields::copy` meets its contract: the first j octets are in their place. Assumes nothing.
-use borrow.Author.Rules.{rules}
-use mathlib.Core.Path.{◌≡◌, refl}
-use Prim.Native.Nat.{◌+◌, ◌-◌, ◌<◌, ◌≤◌}
-use native.Mathlib.Omega.{arith}
-use native.Mathlib.Numerals.{add-one}
-use lib.ListN.{length, length-set}
-use lib.Seq.{paste, paste-zero, paste-suc, take-length}
-use Rattle.fields.specs.Runs.{laid}
+use mathlib.Core.Path.{◌≡◌}
+use Prim.Native.Nat.{◌-◌, ◌≤◌}
+use lib.ListN.{length}
+use lib.Seq.{paste}
 use Rattle.fields.proofs.copy.Given as goal
 
 abbrev pub invariant-loop-j : goal.invariant-loop-j

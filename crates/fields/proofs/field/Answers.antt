@@ -1,6 +1,4 @@
 -- `fields::field` meets its contract: v is the number in the first k octets. Assumes nothing.
-use borrow.Author.Rules.{rules}
-use Prim.Native.Nat.{◌≤◌, ◌<◌, ◌-◌, ◌^◌}
 use mathlib.Core.Path.{◌≡◌, refl}
 use native.Mathlib.Omega.{arith}
 use Rattle.fields.specs.Numbers.{be}

@@ -1,17 +1,9 @@
 -- `fields::put` meets its contract: the octets from k on are written, and those before are as they were. Assumes nothing.
-use mathlib.Core.List.{append_assoc}
-use borrow.Author.Rules.{rules}
-use mathlib.Core.Path.{◌≡◌, refl, sym, ◌∙◌}
+use mathlib.Core.Path.{◌≡◌}
 use mathlib.Core.List.{◌++◌}
-use Prim.Native.Nat.{suc, ◌+◌, ◌-◌, ◌%◌, ◌<◌, ◌≤◌}
-use native.Mathlib.Omega.{arith}
-use native.Mathlib.Nat.{add-zero}
-use lib.ListN.{length, take, drop, length-set, take-append-drop}
-use lib.Seq.{take-set-le}
+use Prim.Native.Nat.{◌+◌, ◌≤◌}
+use lib.ListN.{length, take, drop}
 use Rattle.fields.specs.Numbers.{octets}
-use Rattle.fields.specs.Runs.{laid}
-use Rattle.fields.proofs.Laying.{octet_below, take_less}
-use Rattle.fields.proofs.ReadAgain.{length_octets}
 use Rattle.fields.proofs.put.Given as goal
 
 abbrev pub invariant-loop-k : goal.invariant-loop-k

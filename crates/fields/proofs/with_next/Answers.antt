@@ -1,5 +1,4 @@
 -- `fields::with_next` meets its contract: the octet behind v, and room for it in 64 bits. Assumes nothing.
-use borrow.Author.Rules.{rules}
 use Prim.Native.Nat.{◌+◌, ◌<◌}
 use native.Mathlib.Omega.{arith}
 use native.Mathlib.Numerals.{add-one}

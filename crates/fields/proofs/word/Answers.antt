@@ -2,7 +2,6 @@
 use mathlib.Core.Path.{refl}
 use Rattle.fields.specs.Numbers.{be}
 use native.Mathlib.Omega.{arith}
-use borrow.Author.Rules.{rules}
 use Rattle.fields.proofs.word.Goals as goal
 
 pub with_next-a-requires : goal.with_next-a-requires

@@ -4,7 +4,6 @@ use lib.ListN.{length}
 use Rattle.hearing.proofs.Answered.{refused_as}
 use Rattle.reception.proofs.KeptAsHeld.{lists_matched}
 use Rattle.hearing.proofs.Judged.{fresh_unmatched, fresh_high, fresh_taken, empty_as}
-use borrow.Author.Rules.{rules}
 use Rattle.hearing.proofs.fresh.Goals as goal
 
 pub returns-then-lists_differ : goal.returns-then-lists_differ

@@ -11,7 +11,6 @@ use Rattle.hearing.proofs.Answered.{refused_as}
 use Rattle.reception.proofs.KeptAsHeld.{lists_matched}
 use Rattle.hearing.proofs.Judged.{same_outcome, frame_unmatched, frame_read, unread, closing_only}
 use native.Mathlib.Omega.{arith}
-use borrow.Author.Rules.{rules}
 use Rattle.hearing.proofs.hear.Goals as goal
 use Rattle.hearing.proofs.hear.Lts as lts
 use Rattle.hearing.proofs.hear.Tie as tie

@@ -2,7 +2,6 @@
 use mathlib.Core.Path.{sym, ◌∙◌}
 use Rattle.hearing.proofs.Answered.{refused_as}
 use Rattle.hearing.proofs.Judged.{explained, all_before, all_from, same_outcome, closing_damaged, closing_judged}
-use borrow.Author.Rules.{rules}
 use Rattle.hearing.proofs.hear_closing.Goals as goal
 
 pub returns-then-is_damaged : goal.returns-then-is_damaged

@@ -2,7 +2,6 @@
 use mathlib.Core.Path.{sym, ◌∙◌}
 use Rattle.hearing.proofs.Answered.{refused_as}
 use Rattle.hearing.proofs.Judged.{explained, all_before, all_from, same_outcome, packet_damaged, packet_judged, packet_with}
-use borrow.Author.Rules.{rules}
 use Rattle.hearing.proofs.hear_data.Goals as goal
 
 pub returns-then-is_damaged : goal.returns-then-is_damaged

@@ -1,5 +1,4 @@
 -- `items::next_item` meets its contract. Assumes nothing.
-use borrow.Author.Rules.{rules}
 use mathlib.Core.Path.{sym, ◌∙◌}
 use Rattle.items.proofs.Cases.{read_as, no_head_fact, other_kind}
 use Rattle.items.proofs.next_item.Goals as goal

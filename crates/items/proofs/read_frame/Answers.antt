@@ -1,5 +1,4 @@
 -- `items::read_frame` meets its contract. Assumes nothing.
-use borrow.Author.Rules.{rules}
 use native.Mathlib.Omega.{arith}
 use Rattle.items.proofs.Cases.{read_as, frame_as, too_long, frame_cut, frame}
 use Rattle.items.proofs.read_frame.Goals as goal

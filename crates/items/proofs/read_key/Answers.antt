@@ -1,5 +1,4 @@
 -- `items::read_key` meets its contract. Assumes nothing.
-use borrow.Author.Rules.{rules}
 use native.Mathlib.Omega.{arith}
 use mathlib.Core.Path.{sym, ◌∙◌}
 use Rattle.items.proofs.Cases.{read_as, key_as, other_length, key_cut, late_stamp, key}

@@ -1,6 +1,5 @@
 -- `joining::capacities_off` meets its contract. Assumes nothing.
 use mathlib.Core.Path.{◌∙◌, sym}
-use borrow.Author.Rules.{rules}
 use Rattle.joining.proofs.capacities_off.Goals as goal
 
 pub returns-then-lists_differ : goal.returns-then-lists_differ

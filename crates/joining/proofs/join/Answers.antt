@@ -3,7 +3,6 @@ use mathlib.Core.Path.{sym, ◌∙◌}
 use Rattle.reception.specs.Hearing.{kept_in}
 use Rattle.joining.proofs.Answered.{refused_as}
 use Rattle.joining.proofs.Judged.{join_unmatched}
-use borrow.Author.Rules.{rules}
 use Rattle.joining.proofs.join.Goals as goal
 
 pub returns-then-capacities_off : goal.returns-then-capacities_off

@@ -4,7 +4,6 @@ use mathlib.Core.Path.{◌≡◌, sym, ◌∙◌}
 use Rattle.reception.specs.Hearing.{kept_in, damaged_kept}
 use Rattle.joining.proofs.Answered.{refused_as}
 use Rattle.joining.proofs.Judged.{left_matched, right_matched, left_damaged, right_damaged, join_other}
-use borrow.Author.Rules.{rules}
 use Rattle.joining.proofs.join_matched.Goals as goal
 use Rattle.joining.proofs.join_matched.Lts as lts
 use Rattle.joining.proofs.join_matched.Tie as tie

@@ -8,7 +8,6 @@ use Rattle.hearing.proofs.Judged.{explained}
 use Rattle.joining.proofs.Answered.{contradicted_as, joined_as}
 use Rattle.joining.proofs.Judged.{joinable, names_packet, names_closing, joins_both}
 use Rattle.joining.proofs.BitsOfEither.{either_by_bits}
-use borrow.Author.Rules.{rules}
 use Rattle.joining.proofs.join_undamaged.Goals as goal
 use Rattle.joining.proofs.join_undamaged.Lts as lts
 use Rattle.joining.proofs.join_undamaged.Tie as tie

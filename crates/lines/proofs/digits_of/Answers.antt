@@ -1,7 +1,7 @@
 -- `lines::digits_of` meets its contract: four digits are counted at a time, and the last one to four by tests. Assumes nothing.
 use borrow.Author.Rules.{rules}
 use native.Mathlib.Omega.{arith}
-use Rattle.lines.proofs.Counting.{Counted, none_counted, four_counted, few_counted, all_counted}
+use Rattle.lines.proofs.Counting.{none_counted, four_counted, few_counted, all_counted}
 use Rattle.lines.proofs.Decimal.{length_one, length_two, length_three, length_four}
 use Rattle.lines.proofs.digits_of.Goals as goal
 

@@ -2,7 +2,7 @@
 use borrow.Author.Rules.{rules}
 use native.Mathlib.Omega.{arith}
 use lib.ListN.{length-set}
-use Rattle.lines.proofs.Writing.{DigitsLeft, all_left, one_left, one_written, all_written}
+use Rattle.lines.proofs.Writing.{all_left, one_left, one_written, all_written}
 use Rattle.lines.proofs.put_digits.Goals as goal
 
 pub loop-rest-init : goal.loop-rest-init

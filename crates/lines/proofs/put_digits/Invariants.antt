@@ -1,8 +1,5 @@
 -- `lines::put_digits` meets its contract: the digits from i on stand, and those of rest are left. Assumes nothing.
-use borrow.Author.Rules.{rules}
-use native.Mathlib.Omega.{arith}
-use lib.ListN.{length-set}
-use Rattle.lines.proofs.Writing.{DigitsLeft, all_left, one_left, one_written, all_written}
+use Rattle.lines.proofs.Writing.{DigitsLeft}
 use Rattle.lines.proofs.put_digits.Given as goal
 
 abbrev pub invariant-loop-rest : goal.invariant-loop-rest

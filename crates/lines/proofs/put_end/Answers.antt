@@ -1,5 +1,4 @@
 -- `lines::put_end` meets its contract. Assumes nothing.
-use borrow.Author.Rules.{rules}
 use native.Mathlib.Omega.{arith}
 use Rattle.lines.proofs.Putting.{puts_one}
 use Rattle.lines.proofs.put_end.Goals as goal

@@ -4,7 +4,6 @@ use lib.ListN.{length-set}
 use Rattle.lines.specs.Text.{field}
 use Rattle.lines.proofs.Putting.{puts_one, puts_then}
 use native.Mathlib.Omega.{arith}
-use borrow.Author.Rules.{rules}
 use Rattle.lines.proofs.put_number.Goals as goal
 
 pub put_digits-requires : goal.put_digits-requires

@@ -1,7 +1,6 @@
 -- `numbers_frames::closing_in_one` meets its contract. Assumes nothing.
 use Rattle.numbers.proofs.InOne.{as_few}
 use Rattle.numbers_frames.proofs.FramesCounted.{few_closing, wrote}
-use borrow.Author.Rules.{rules}
 use Rattle.numbers_frames.proofs.closing_in_one.Goals as goal
 
 pub written_in_one-requires : goal.written_in_one-requires

@@ -1,6 +1,5 @@
 -- `numbers_frames::lengths_in_one` meets its contract. Assumes nothing.
 use Rattle.numbers_frames.proofs.FramesCounted.{listed_refused, listed_done}
-use borrow.Author.Rules.{rules}
 use Rattle.numbers_frames.proofs.lengths_in_one.Goals as goal
 
 pub returns-in-Refused : goal.returns-in-Refused

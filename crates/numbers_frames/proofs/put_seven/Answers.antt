@@ -2,7 +2,6 @@
 use lib.ListN.{length-set}
 use borrow.Author.Tests.{lt-ltb, le-ltb}
 use native.Mathlib.Omega.{arith}
-use borrow.Author.Rules.{rules}
 use Rattle.numbers.proofs.StoredInFront.{seven}
 use Rattle.numbers_frames.proofs.put_seven.Goals as goal
 

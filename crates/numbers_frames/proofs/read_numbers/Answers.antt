@@ -6,7 +6,6 @@ use Rattle.frame.specs.declared.Read.{Read}
 use Rattle.frame.specs.declared.Read.TheVariants.{Closing, Data, ClosingWithLengths, Refused}
 use Rattle.frame.specs.Paper.{ReadPaper, read_paper}
 use Rattle.numbers_frames.specs.Reading.{ReadOut}
-use borrow.Author.Rules.{rules}
 use Rattle.numbers_frames.proofs.read_numbers.Goals as goal
 
 -- the promise, where the answer a is the case x

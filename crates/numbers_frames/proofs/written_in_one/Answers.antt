@@ -2,7 +2,6 @@
 use Rattle.numbers.proofs.InOne.{one_refused, one_done, done_few}
 use mathlib.Core.Path.{◌∙◌}
 use native.Mathlib.Omega.{arith}
-use borrow.Author.Rules.{rules}
 use Rattle.numbers_frames.proofs.written_in_one.Goals as goal
 
 pub overflow_mul-result : goal.overflow_mul-result

@@ -1,7 +1,6 @@
 -- `numbers_head::head_of` meets its contract. Assumes nothing.
 use mathlib.Core.Path.{sym, ◌∙◌}
 use Rattle.numbers_head.proofs.HeadsSaid.{few_numbers, wide_bearer, wide_period, wide_stamp, odd_closed, wide_count, a_head}
-use borrow.Author.Rules.{rules}
 use Rattle.numbers_head.proofs.head_of.Goals as goal
 
 pub returns-then-numbers-lt6 : goal.returns-then-numbers-lt6

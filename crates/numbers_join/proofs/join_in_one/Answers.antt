@@ -1,6 +1,5 @@
 -- `numbers_join::join_in_one` meets its contract. Assumes nothing.
 use Rattle.numbers_join.proofs.JoinsKept.{named_fits, short_left, short_right, join_refused, join_named, join_done}
-use borrow.Author.Rules.{rules}
 use Rattle.numbers_join.proofs.join_in_one.Goals as goal
 
 pub returns-then-head-lt6 : goal.returns-then-head-lt6

@@ -1,7 +1,6 @@
 -- `numbers_record::fresh_record` meets its contract. Assumes nothing.
 use Rattle.reception.proofs.AnswersTold.{number_told, no_number}
 use Rattle.numbers_record.proofs.RecordsKept.{no_room_lem, refused_kept, taken_kept}
-use borrow.Author.Rules.{rules}
 use Rattle.numbers_record.proofs.fresh_record.Goals as goal
 
 pub returns-then-head-lt6 : goal.returns-then-head-lt6

@@ -2,7 +2,6 @@
 use Rattle.reception.proofs.AnswersTold.{answer_told, no_answer}
 use Rattle.numbers_record.proofs.RecordsKept.{no_room_lem, refused_kept, taken_kept}
 use mathlib.Core.Path.{◌∙◌}
-use borrow.Author.Rules.{rules}
 use Rattle.numbers_record.proofs.hear_frame.Goals as goal
 
 pub returns-then-head-lt6 : goal.returns-then-head-lt6

@@ -2,7 +2,6 @@
 use lib.ListN.{length-set}
 use Rattle.numbers.proofs.StoredInFront.{seven}
 use native.Mathlib.Omega.{arith}
-use borrow.Author.Rules.{rules}
 use Rattle.numbers_report.proofs.put_figures.Goals as goal
 
 pub bounds-figures-1 : goal.bounds-figures-1

@@ -2,7 +2,6 @@
 use mathlib.Core.Path.{sym, ◌∙◌}
 use Rattle.reception.proofs.KeptAsHeld.{lists_matched}
 use Rattle.numbers_report.proofs.ReportsTold.{none_unmatched, none_damaged, none_room}
-use borrow.Author.Rules.{rules}
 use Rattle.numbers_report.proofs.refusal_of.Goals as goal
 
 pub returns-then-lists_differ : goal.returns-then-lists_differ

@@ -1,6 +1,5 @@
 -- `numbers_report::report_figures` meets its contract. Assumes nothing.
 use Rattle.numbers_report.proofs.ReportsTold.{short_head, short_figures, told_refused, told_report}
-use borrow.Author.Rules.{rules}
 use Rattle.numbers_report.proofs.report_figures.Goals as goal
 
 pub returns-then-head-lt6 : goal.returns-then-head-lt6

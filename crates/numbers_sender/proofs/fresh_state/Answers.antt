@@ -1,6 +1,5 @@
 -- `numbers_sender::fresh_state` meets its contract. Assumes nothing.
 use Rattle.numbers_sender.proofs.SendersKept.{short_fresh, made_fresh}
-use borrow.Author.Rules.{rules}
 use Rattle.numbers_sender.proofs.fresh_state.Goals as goal
 
 pub returns-then-state-lt6 : goal.returns-then-state-lt6

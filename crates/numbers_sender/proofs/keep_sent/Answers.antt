@@ -3,7 +3,6 @@ use Rattle.numbers.proofs.InOne.{one_refused, one_done, done_few}
 use Rattle.numbers_sender.proofs.SendersKept.{sent_refused, sent_done}
 use mathlib.Core.Path.{◌∙◌}
 use native.Mathlib.Omega.{arith}
-use borrow.Author.Rules.{rules}
 use Rattle.numbers_sender.proofs.keep_sent.Goals as goal
 
 pub overflow_mul-result : goal.overflow_mul-result

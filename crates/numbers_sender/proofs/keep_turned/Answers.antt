@@ -1,6 +1,5 @@
 -- `numbers_sender::keep_turned` meets its contract. Assumes nothing.
 use Rattle.numbers_sender.proofs.SendersKept.{turn_refused, turn_done}
-use borrow.Author.Rules.{rules}
 use Rattle.numbers_sender.proofs.keep_turned.Goals as goal
 
 pub returns-in-Refused : goal.returns-in-Refused

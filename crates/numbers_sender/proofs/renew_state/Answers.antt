@@ -1,6 +1,5 @@
 -- `numbers_sender::renew_state` meets its contract. Assumes nothing.
 use Rattle.numbers_sender.proofs.SendersKept.{short_turn, turned}
-use borrow.Author.Rules.{rules}
 use Rattle.numbers_sender.proofs.renew_state.Goals as goal
 
 pub returns-then-state-lt6 : goal.returns-then-state-lt6

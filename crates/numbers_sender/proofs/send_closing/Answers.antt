@@ -1,7 +1,6 @@
 -- `numbers_sender::send_closing` meets its contract. Assumes nothing.
 use Rattle.numbers.proofs.InOne.{as_few}
 use Rattle.numbers_sender.proofs.SendersKept.{few_closed, short_send, sent}
-use borrow.Author.Rules.{rules}
 use Rattle.numbers_sender.proofs.send_closing.Goals as goal
 
 pub returns-then-state-lt6 : goal.returns-then-state-lt6

@@ -1,7 +1,6 @@
 -- `numbers_sender::send_closing_with_lengths` meets its contract. Assumes nothing.
 use Rattle.numbers.proofs.InOne.{as_few}
 use Rattle.numbers_sender.proofs.SendersKept.{few_closed_with, short_send, sent}
-use borrow.Author.Rules.{rules}
 use Rattle.numbers_sender.proofs.send_closing_with_lengths.Goals as goal
 
 pub returns-then-state-lt6 : goal.returns-then-state-lt6

@@ -2,7 +2,6 @@
 use borrow.Author.Tests.{lt-ltb, le-ltb}
 use Rattle.numbers_state.proofs.StatesSaid.{rest_decides}
 use Rattle.numbers_state.specs.States.{no_state}
-use borrow.Author.Rules.{rules}
 use Rattle.numbers_state.proofs.no_state.Goals as goal
 
 pub returns-then-numbers-lt6 : goal.returns-then-numbers-lt6

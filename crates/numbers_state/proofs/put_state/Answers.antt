@@ -4,7 +4,6 @@ use lib.ListN.{length-set}
 use borrow.Author.Tests.{lt-ltb, le-ltb}
 use Rattle.numbers.proofs.StoredInFront.{six}
 use native.Mathlib.Omega.{arith}
-use borrow.Author.Rules.{rules}
 use Rattle.numbers_state.proofs.put_state.Goals as goal
 
 pub returns-then-numbers-lt6 : goal.returns-then-numbers-lt6

@@ -2,7 +2,6 @@
 use mathlib.Core.Path.{sym, ◌∙◌}
 use Rattle.numbers_state.proofs.StatesSaid.{a_state, none_said, sender_said}
 use native.Mathlib.Omega.{arith}
-use borrow.Author.Rules.{rules}
 use Rattle.numbers_state.proofs.sender_of.Goals as goal
 
 pub returns-then-no_state : goal.returns-then-no_state

@@ -1,6 +1,5 @@
 -- `numbers_ticks::due_in_one` meets its contract. Assumes nothing.
 use Rattle.numbers_ticks.proofs.TicksTold.{due_refused, due_told}
-use borrow.Author.Rules.{rules}
 use Rattle.numbers_ticks.proofs.due_in_one.Goals as goal
 
 pub returns-in-Refused : goal.returns-in-Refused

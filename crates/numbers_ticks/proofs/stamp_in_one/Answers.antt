@@ -1,6 +1,5 @@
 -- `numbers_ticks::stamp_in_one` meets its contract. Assumes nothing.
 use Rattle.numbers_ticks.proofs.TicksTold.{moment_refused, moment_told}
-use borrow.Author.Rules.{rules}
 use Rattle.numbers_ticks.proofs.stamp_in_one.Goals as goal
 
 pub returns-in-Refused : goal.returns-in-Refused

@@ -1,9 +1,6 @@
 -- `passing::pass` meets its contract. Assumes nothing.
 use mathlib.Core.Path.{refl}
 use Rattle.passing.proofs.LastAccount.{over_waits, room_waits, read_waits, last_told}
-use native.Mathlib.Omega.{arith}
-use borrow.Author.Rules.{rules}
-use borrow.Author.Tests.{not-true, not-false}
 use Rattle.passing.proofs.pass.Goals as goal
 
 pub returns-then-w : goal.returns-then-w

@@ -1,12 +1,8 @@
 -- `passing::pass_items` meets its contract. Assumes nothing.
-use Prim.Native.Nat.{◌+◌, ◌-◌}
-use mathlib.Core.Path.{sym, ◌∙◌}
+use Prim.Native.Nat.{◌+◌}
 use mathlib.Core.Bool.{cond}
-use Rattle.fields.proofs.Laying.{to_end}
 use Rattle.printout.specs.Stepping.{between_in}
-use Rattle.passing.proofs.OneMore.{Passing, goes_on_means, passing_start, passing_done, used_less, passing_on, passes_less}
-use native.Mathlib.Omega.{arith}
-use borrow.Author.Rules.{rules}
+use Rattle.passing.proofs.OneMore.{Passing}
 use Rattle.passing.proofs.pass_items.Given as goal
 
 abbrev pub invariant-loop-stops : goal.invariant-loop-stops

@@ -5,7 +5,6 @@ use lib.ListN.{length}
 use Rattle.frame.specs.Payloads.{ihl_of, stated_v4, kept_of}
 use Rattle.frame.proofs.Payloads.{v4_starts, by_v4, ihl_kept, less_kept}
 use native.Mathlib.Omega.{arith}
-use borrow.Author.Rules.{rules}
 use Rattle.payloads.proofs.kept_by_v4.Goals as goal
 
 pub returns-then-words-lt5 : goal.returns-then-words-lt5

@@ -2,7 +2,6 @@
 use mathlib.Core.Path.{sym, ◌∙◌}
 use Rattle.frame.proofs.Payloads.{v6_starts, by_v6, six_incomplete_kept}
 use native.Mathlib.Omega.{arith}
-use borrow.Author.Rules.{rules}
 use Rattle.payloads.proofs.kept_by_v6.Goals as goal
 
 pub returns-then-part-lt40 : goal.returns-then-part-lt40

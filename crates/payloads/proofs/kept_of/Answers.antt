@@ -2,7 +2,6 @@
 use mathlib.Core.Path.{sym}
 use Rattle.frame.proofs.Payloads.{kept_stated, more_kept, far_kept}
 use native.Mathlib.Omega.{arith}
-use borrow.Author.Rules.{rules}
 use Rattle.payloads.proofs.kept_of.Goals as goal
 
 pub returns-then-l-n : goal.returns-then-l-n

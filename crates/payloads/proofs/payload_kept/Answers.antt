@@ -1,7 +1,6 @@
 -- `payloads::payload_kept` meets its contract. Assumes nothing.
 use mathlib.Core.Path.{sym}
 use Rattle.frame.proofs.Payloads.{incomplete_kept, other_kept}
-use borrow.Author.Rules.{rules}
 use Rattle.payloads.proofs.payload_kept.Goals as goal
 
 pub returns-then-part-lt20 : goal.returns-then-part-lt20

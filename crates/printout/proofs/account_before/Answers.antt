@@ -1,6 +1,6 @@
 -- `printout::account_before` meets its contract. Assumes nothing.
 use Rattle.printout.proofs.Stepped.{ready_lists, begun_account, none_account}
-use Rattle.std.proofs.Common.{arith, rules}
+use Rattle.std.proofs.Common.{arith}
 use Rattle.printout.proofs.account_before.Goals as goal
 
 pub put_account-requires : goal.put_account-requires

@@ -1,5 +1,5 @@
 -- `printout::begin` meets its contract. Assumes nothing.
-use Rattle.std.proofs.Common.{ℕ, replicate, ap, ◌∙◌, rules}
+use Rattle.std.proofs.Common.{ℕ, replicate, ap, ◌∙◌}
 use Rattle.printout.specs.Stepping.{between_in}
 use Rattle.hearing.specs.declared.contradicting.Span.{Span}
 use Rattle.hearing.proofs.Cleared.{heard_outside}

@@ -1,6 +1,5 @@
 -- `printout::hear_frame` meets its contract. Assumes nothing.
 use Rattle.printout.proofs.Stepped.{ready_lists, framed_step}
-use Rattle.std.proofs.Common.{rules}
 use Rattle.printout.proofs.hear_frame.Goals as goal
 
 pub hear_next-t-requires : goal.hear_next-t-requires

@@ -1,6 +1,6 @@
 -- `printout::put_answer` meets its contract. Assumes nothing.
 use Rattle.printout.proofs.Stepped.{told_nothing, told_refused}
-use Rattle.std.proofs.Common.{arith, rules}
+use Rattle.std.proofs.Common.{arith}
 use Rattle.printout.proofs.put_answer.Goals as goal
 
 pub put_refused-requires : goal.put_refused-requires

@@ -5,7 +5,6 @@ use borrow.Author.Tests.{eq-eqb, ne_eqb}
 use Rattle.frame.specs.Reading.{read_body}
 use Rattle.frame.specs.Layout.{closing_of}
 use Rattle.frame.specs.Counts.{closing_wrong}
-use borrow.Author.Rules.{rules}
 use Rattle.reader.proofs.read_closing.Goals as goal
 
 pub returns-then-frame-ne-CLOSING_SIZE : goal.returns-then-frame-ne-CLOSING_SIZE

@@ -12,7 +12,6 @@ use Rattle.frame.specs.Payloads.{payload_kept}
 use Rattle.frame.specs.Reading.{read_body, payload_wrong}
 use Rattle.reader.proofs.ChecksCompared.{check_wrong_fact, check_right}
 use native.Mathlib.Omega.{arith}
-use borrow.Author.Rules.{rules}
 use Rattle.reader.proofs.read_data.Goals as goal
 use Rattle.reader.proofs.read_data.Lts as lts
 use Rattle.reader.proofs.read_data.Tie as tie

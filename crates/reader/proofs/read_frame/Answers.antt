@@ -6,7 +6,6 @@ use lib.ListN.{length}
 use Rattle.frame.specs.Layout.{least, type_of}
 use Rattle.frame.specs.Reading.{read_frame}
 use Rattle.frame.specs.Paper.{read_paper}
-use borrow.Author.Rules.{rules}
 use Rattle.reader.proofs.read_frame.Goals as goal
 
 pub returns-then-frame-eq0 : goal.returns-then-frame-eq0

@@ -10,7 +10,6 @@ use Rattle.frame.specs.Reading.{header_wrong, read_headed}
 use Rattle.frame.proofs.Accepted.{control_lt, least_ge}
 use Rattle.reader.proofs.ChecksCompared.{check_wrong_fact, check_right}
 use native.Mathlib.Omega.{arith}
-use borrow.Author.Rules.{rules}
 use Rattle.reader.proofs.read_headed.Goals as goal
 use Rattle.reader.proofs.read_headed.Lts as lts
 use Rattle.reader.proofs.read_headed.Tie as tie

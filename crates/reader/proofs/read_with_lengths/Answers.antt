@@ -12,7 +12,6 @@ use Rattle.frame.specs.Counts.{lengths_wrong}
 use Rattle.frame.specs.Reading.{read_body, payload_wrong}
 use Rattle.reader.proofs.ChecksCompared.{check_wrong_fact, check_right}
 use native.Mathlib.Omega.{arith}
-use borrow.Author.Rules.{rules}
 use Rattle.reader.proofs.read_with_lengths.Goals as goal
 use Rattle.reader.proofs.read_with_lengths.Lts as lts
 use Rattle.reader.proofs.read_with_lengths.Tie as tie

@@ -6,7 +6,6 @@ use Rattle.reception.proofs.KeptAsHeld.{lists_matched}
 use Rattle.reception.proofs.ReportSaid.{report_unmatched, report_damaged, report_no_room, report_done}
 use Rattle.reporting.proofs.CountedReport.{sound, sent_is, gaps_are, missing_sent, report_with_fact}
 use Rattle.reporting.proofs.Answered.{refused_as, done_as, too_many, few_enough, room_for}
-use borrow.Author.Rules.{rules}
 use Rattle.reporting.proofs.report.Goals as goal
 
 pub returns-then-lists_differ : goal.returns-then-lists_differ

@@ -12,7 +12,6 @@ use Rattle.sender.specs.Calls.{close_call}
 use Rattle.sender.proofs.Answering.{kept, written}
 use Rattle.sender.proofs.Undamaged.{undamaged}
 use Rattle.sender.proofs.Written.{closing_written}
-use borrow.Author.Rules.{rules}
 use Rattle.sender.proofs.closed.Goals as goal
 
 pub returns-then-is_damaged : goal.returns-then-is_damaged

@@ -1,7 +1,6 @@
 -- `sender::closed_with_lengths` meets its contract. Assumes nothing.
 use mathlib.Core.Path.{◌≡◌, refl, sym, ap, ◌∙◌}
 use mathlib.Core.Bool.{true, false, not}
-use borrow.Author.Tests.{not-false}
 use lib.ListN.{length}
 use Rattle.frame.specs.declared.Written.{Written}
 use Rattle.frame.proofs.OnePaper.{written_known}
@@ -11,7 +10,6 @@ use Rattle.sender.specs.Calls.{close_with_call}
 use Rattle.sender.proofs.Answering.{kept, written}
 use Rattle.sender.proofs.Undamaged.{undamaged}
 use Rattle.sender.proofs.Written.{lengths_closed, closed_by}
-use borrow.Author.Rules.{rules}
 use Rattle.sender.proofs.closed_with_lengths.Goals as goal
 use Rattle.sender.proofs.closed_with_lengths.Lts as lts
 use Rattle.sender.proofs.closed_with_lengths.Tie as tie

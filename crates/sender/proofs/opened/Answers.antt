@@ -5,7 +5,6 @@ use borrow.Author.Tests.{lt-ltb, le-ltb}
 use Rattle.sender.specs.State.{damaged, is_open, not_later}
 use Rattle.sender.specs.Calls.{open_call}
 use Rattle.sender.proofs.Answering.{turns}
-use borrow.Author.Rules.{rules}
 use Rattle.sender.proofs.opened.Goals as goal
 
 pub returns-then-is_damaged : goal.returns-then-is_damaged

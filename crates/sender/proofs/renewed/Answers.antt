@@ -6,7 +6,6 @@ use Rattle.sender.specs.Calls.{renew_call}
 use Rattle.sender.specs.declared.Sender.{Sender}
 use Rattle.sender.specs.declared.Turned.TheVariants.{Done}
 use Rattle.sender.proofs.Answering.{turns}
-use borrow.Author.Rules.{rules}
 use Rattle.sender.proofs.renewed.Goals as goal
 
 pub returns-then-is_damaged : goal.returns-then-is_damaged

@@ -13,7 +13,6 @@ use Rattle.sender.specs.Calls.{data_call}
 use Rattle.sender.proofs.Answering.{kept, written}
 use Rattle.sender.proofs.Undamaged.{undamaged, few_octets}
 use Rattle.sender.proofs.Written.{data_written}
-use borrow.Author.Rules.{rules}
 use Rattle.sender.proofs.sent.Goals as goal
 use Rattle.sender.proofs.sent.Lts as lts
 use Rattle.sender.proofs.sent.Tie as tie

@@ -2,7 +2,6 @@
 use mathlib.Core.Path.{sym, ap, ◌∙◌}
 use Rattle.reception.specs.Hearing.{taken_paper}
 use Rattle.reception.specs.Several.{answer_of}
-use borrow.Author.Rules.{rules}
 use Rattle.several.proofs.answer_of.Goals as goal
 
 pub returns-in-Done : goal.returns-in-Done

@@ -1,13 +1,9 @@
 -- `several::hear_frames` meets its contract. Assumes nothing.
-use Prim.Native.Nat.{◌-◌}
-use lib.ListN.{length}
-use Rattle.reception.specs.Hearing.{kept_in}
 use Rattle.reception.proofs.KeptAsHeld.{matched_lists}
 use Rattle.reception.proofs.WhatHearingAdds.{sound_lists}
-use Rattle.several.proofs.HeardSoFar.{HeardSoFar, none_yet, one_more_at, all_heard}
+use Rattle.several.proofs.HeardSoFar.{none_yet, one_more_at, all_heard}
 use Rattle.several.proofs.PartOfRow.{part_is}
 use native.Mathlib.Omega.{arith}
-use borrow.Author.Rules.{rules}
 use Rattle.several.proofs.hear_frames.Goals as goal
 
 pub loop-i-init : goal.loop-i-init

@@ -2,12 +2,7 @@
 use Prim.Native.Nat.{◌-◌}
 use lib.ListN.{length}
 use Rattle.reception.specs.Hearing.{kept_in}
-use Rattle.reception.proofs.KeptAsHeld.{matched_lists}
-use Rattle.reception.proofs.WhatHearingAdds.{sound_lists}
-use Rattle.several.proofs.HeardSoFar.{HeardSoFar, none_yet, one_more_at, all_heard}
-use Rattle.several.proofs.PartOfRow.{part_is}
-use native.Mathlib.Omega.{arith}
-use borrow.Author.Rules.{rules}
+use Rattle.several.proofs.HeardSoFar.{HeardSoFar}
 use Rattle.several.proofs.hear_frames.Given as goal
 
 abbrev pub invariant-loop-i : goal.invariant-loop-i

@@ -5,7 +5,6 @@ use Rattle.reception.specs.Damage.{Matched}
 use Rattle.reception.proofs.KeptAsHeld.{lists_matched}
 use Rattle.hearing.proofs.EmptyRecord.{empty_is, empty_lists, empty_undamaged, empty_before, empty_from}
 use Rattle.several.proofs.WholeSequence.{sequence_unmatched, sequence_high, sequence_no_room, sequence_taken, sequence_refused, sequence_heard}
-use borrow.Author.Rules.{rules}
 use Rattle.several.proofs.hear_sequence.Goals as goal
 
 pub returns-then-lists_differ : goal.returns-then-lists_differ

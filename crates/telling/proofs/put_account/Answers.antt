@@ -1,6 +1,5 @@
 -- `telling::put_account` meets its contract. Assumes nothing.
 use native.Mathlib.Omega.{arith}
-use borrow.Author.Rules.{rules}
 use Rattle.telling.proofs.AccountMade.{sent_fits, sent_is, puts_account}
 use Rattle.telling.proofs.put_account.Goals as goal
 

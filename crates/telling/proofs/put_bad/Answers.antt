@@ -1,6 +1,5 @@
 -- `telling::put_bad` meets its contract. Assumes nothing.
 use native.Mathlib.Omega.{arith}
-use borrow.Author.Rules.{rules}
 use Rattle.telling.specs.Account.{bad_word}
 use Rattle.telling.proofs.LineParts.{number_within, line_within, puts_single, puts_ended}
 use Rattle.telling.proofs.put_bad.Goals as goal

@@ -1,7 +1,6 @@
 -- `telling::put_refused` meets its contract. Assumes nothing.
 use mathlib.Core.Path.{sym, ◌∙◌}
 use native.Mathlib.Omega.{arith}
-use borrow.Author.Rules.{rules}
 use Rattle.telling.proofs.LineParts.{line_within}
 use Rattle.telling.proofs.RefusedTold.{with_checks, number_alone}
 use Rattle.telling.proofs.put_refused.Goals as goal

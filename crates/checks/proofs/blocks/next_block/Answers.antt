@@ -3,7 +3,6 @@ use mathlib.Core.Path.{◌≡◌, ap, ◌∙◌}
 use Prim.Native.Nat.{◌+◌}
 use Rattle.checks.specs.Inside.{passed}
 use native.Mathlib.Omega.{arith}
-use borrow.Author.Rules.{rules}
 use Rattle.checks.proofs.blocks.next_block.Goals as goal
 
 pub overflow_add-i6 : goal.overflow_add-i6

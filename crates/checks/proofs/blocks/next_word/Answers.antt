@@ -1,5 +1,4 @@
 -- `checks::blocks::next_word` meets its contract: eight octets more. Assumes nothing.
-use borrow.Author.Rules.{rules}
 use mathlib.Core.Path.{ap₂, ◌∙◌}
 use Rattle.checks.specs.Inside.{feed}
 use Rattle.checks.proofs.Folding.{passed_word}

@@ -1,13 +1,12 @@
 -- `checks::blocks::to_word` meets its contract: the block leaves what the first i octets leave. Assumes nothing.
 use mathlib.Core.Path.{◌≡◌, ap, ◌∙◌}
-use mathlib.Core.List.{[], ◌∷◌}
-use Prim.Native.Nat.{◌-◌, ◌%◌, ◌≤◌}
+use mathlib.Core.List.{◌∷◌}
+use Prim.Native.Nat.{◌%◌}
 use lib.ListN.{length}
-use Rattle.checks.specs.Inside.{value, passed}
+use Rattle.checks.specs.Inside.{passed}
 use Rattle.checks.proofs.Folding.{lead}
 use Rattle.checks.proofs.ShortSums.{payload, payload_64, payload_38}
 use native.Mathlib.Omega.{arith}
-use borrow.Author.Rules.{rules}
 use Rattle.checks.proofs.blocks.to_word.Goals as goal
 
 pub returns-then-n-lt64 : goal.returns-then-n-lt64

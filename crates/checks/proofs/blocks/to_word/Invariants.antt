@@ -1,13 +1,7 @@
 -- `checks::blocks::to_word` meets its contract: the block leaves what the first i octets leave. Assumes nothing.
-use mathlib.Core.Path.{◌≡◌, ap, ◌∙◌}
-use mathlib.Core.List.{[], ◌∷◌}
+use mathlib.Core.Path.{◌≡◌}
 use Prim.Native.Nat.{◌-◌, ◌%◌, ◌≤◌}
-use lib.ListN.{length}
 use Rattle.checks.specs.Inside.{value, passed}
-use Rattle.checks.proofs.Folding.{lead}
-use Rattle.checks.proofs.ShortSums.{payload, payload_64, payload_38}
-use native.Mathlib.Omega.{arith}
-use borrow.Author.Rules.{rules}
 use Rattle.checks.proofs.blocks.to_word.Given as goal
 
 abbrev pub invariant-loop-i : goal.invariant-loop-i

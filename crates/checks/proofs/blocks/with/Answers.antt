@@ -1,5 +1,4 @@
 -- `checks::blocks::with` meets its contract. Assumes nothing.
-use borrow.Author.Rules.{rules}
 use Rattle.checks.proofs.ShortSums.{payload, payload_38}
 use Rattle.checks.proofs.blocks.with.Goals as goal
 

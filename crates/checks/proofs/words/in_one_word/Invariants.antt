@@ -1,11 +1,7 @@
 -- `checks::words::in_one_word` meets its contract: x stands for the first i octets. Assumes nothing.
-use borrow.Author.Rules.{rules}
-use mathlib.Core.Path.{◌≡◌, ap, subst, ◌∙◌}
-use Prim.Native.Nat.{ℕ, ◌+◌, ◌-◌, ◌%◌, ◌≤◌}
-use native.Mathlib.Omega.{arith}
-use lib.ListN.{length}
-use Rattle.checks.specs.Inside.{Stands, exponents, leaves}
-use Rattle.checks.proofs.Folding.{first_octets, next_word}
+use mathlib.Core.Path.{◌≡◌}
+use Prim.Native.Nat.{◌-◌, ◌%◌, ◌≤◌}
+use Rattle.checks.specs.Inside.{Stands}
 use Rattle.checks.proofs.words.in_one_word.Given as goal
 
 abbrev pub invariant-loop-i : goal.invariant-loop-i

@@ -1,5 +1,4 @@
 -- `checks::words::reduce` meets its contract: digits from n on come back as the sum that D^n is. Assumes nothing.
-use borrow.Author.Rules.{rules}
 use mathlib.Core.Path.{sym, ap, subst, ◌∙◌}
 use Prim.Native.Nat.{ℕ, ◌%◌, ◌^◌, ◌<◌}
 use native.Mathlib.Omega.{arith}

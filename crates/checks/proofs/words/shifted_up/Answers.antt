@@ -1,7 +1,6 @@
 -- `checks::words::shifted_up` meets its contract. Assumes nothing.
 use Rattle.checks.proofs.Sums.{three}
 use Prim.Native.Nat.{◌*◌, ◌%◌, ◌^◌}
-use borrow.Author.Rules.{rules}
 use Rattle.checks.proofs.words.shifted_up.Goals as goal
 
 pub returns : goal.returns

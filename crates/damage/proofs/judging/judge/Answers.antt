@@ -3,7 +3,6 @@ use mathlib.Core.Path.{◌∙◌, sym}
 use borrow.Author.Tests.{lt-ltb, le-ltb}
 use Rattle.reception.specs.Damage.{damaged_record}
 use Rattle.damage.proofs.JudgedCounted.{judged_off, same_judged}
-use borrow.Author.Rules.{rules}
 use Rattle.damage.proofs.judging.judge.Goals as goal
 
 pub returns-then-h-gt-LAST_STAMP : goal.returns-then-h-gt-LAST_STAMP

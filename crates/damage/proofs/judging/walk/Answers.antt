@@ -1,11 +1,6 @@
 -- `damage::judging::walk` meets its contract. Assumes nothing.
-use Prim.Native.Nat.{◌-◌}
-use lib.ListN.{length}
-use Rattle.reception.specs.Sendings.{held_in}
-use Rattle.damage.proofs.Walking.{Walking, start, misfit, heard, wrong, unheard, left_over}
-use Rattle.damage.specs.Judging.{Ended}
+use Rattle.damage.proofs.Walking.{start, misfit, heard, wrong, unheard, left_over}
 use Rattle.damage.proofs.JudgedCounted.{ended_start, ended_heard, ended_unheard, judged_off, ended_all}
-use borrow.Author.Rules.{rules}
 use Rattle.damage.proofs.judging.walk.Goals as goal
 use Rattle.damage.proofs.judging.walk.Goals.{then-marks-k-eq1+else-not-is_fit, else-marks-k-eq1+else-place_wrong}
 
@@ -26,12 +21,12 @@ loop-k-preserved c =
     let g = c.loop-k.invariant in
     let lt = c.loop-k-test.true in
     elim c.if-marks-k-eq1.branch [
-      then-marks-k-eq1+else-not-is_fit w ↦ rw (w.i-is, w.a-is, w.gaps-is) (
+      | then-marks-k-eq1+else-not-is_fit w ↦ rw (w.i-is, w.a-is, w.gaps-is) (
         heard _ _ _ _ g.0 lt w.if-marks-k-eq1.true _ _ w.from_u32-e.ensures.0 w.from_u16-l.ensures.0 _ w.is_fit.ensures w.if-not-is_fit.false,
         ended_heard _ _ _ _ _ _ _ g.1 w.if-marks-k-eq1.true _ _ _ w.from_u32-e.ensures.0 w.from_u16-l.ensures.0 w.gap_between-gaps.ensures,
       )
-    | else-marks-k-eq1+else-place_wrong w ↦
-      rw (w.i-is, w.a-is, w.gaps-is) (unheard _ _ _ _ g.0 lt _ w.place_wrong.ensures w.if-marks-k-eq1.false w.if-place_wrong.false, ended_unheard _ _ _ _ _ _ _ g.1 w.if-marks-k-eq1.false)
+      | else-marks-k-eq1+else-place_wrong w ↦
+          rw (w.i-is, w.a-is, w.gaps-is) (unheard _ _ _ _ g.0 lt _ w.place_wrong.ensures w.if-marks-k-eq1.false w.if-place_wrong.false, ended_unheard _ _ _ _ _ _ _ g.1 w.if-marks-k-eq1.false)
     ]
 
 pub returns : goal.returns

@@ -1,5 +1,4 @@
 -- `fields::little::four` meets its contract: the first two octets, and 65,536 times the others. Assumes nothing.
-use borrow.Author.Rules.{rules}
 use native.Mathlib.Omega.{arith}
 use Rattle.fields.proofs.LittleEndian.{le_four}
 use Rattle.fields.proofs.little.four.Goals as goal

@@ -1,5 +1,4 @@
 -- `fields::little::octet` meets its contract. Assumes nothing.
-use borrow.Author.Rules.{rules}
 use native.Mathlib.Omega.{arith}
 use mathlib.Core.Path.{refl}
 use Rattle.fields.proofs.little.octet.Goals as goal

@@ -1,5 +1,4 @@
 -- `fields::little::two` meets its contract: the first octet, and 256 times the second. Assumes nothing.
-use borrow.Author.Rules.{rules}
 use native.Mathlib.Omega.{arith}
 use Rattle.fields.proofs.LittleEndian.{le_two}
 use Rattle.fields.proofs.little.two.Goals as goal

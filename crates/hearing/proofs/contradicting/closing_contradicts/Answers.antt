@@ -1,7 +1,6 @@
 -- `hearing::contradicting::closing_contradicts` meets its contract. Assumes nothing.
 use Rattle.hearing.proofs.NeighboursFound.{last_end}
 use Rattle.hearing.proofs.AskedOfNeighbours.{held_closing, new_closing}
-use borrow.Author.Rules.{rules}
 use Rattle.hearing.proofs.contradicting.closing_contradicts.Goals as goal
 
 pub returns-then-h : goal.returns-then-h

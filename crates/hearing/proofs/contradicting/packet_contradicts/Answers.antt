@@ -1,9 +1,7 @@
 -- `hearing::contradicting::packet_contradicts` meets its contract. Assumes nothing.
-use borrow.Author.Tests.{not-true, not-false}
 use Rattle.reception.specs.Sendings.{held_in}
 use Rattle.hearing.proofs.AskedOfNeighbours.{end_back, held_packet, far_off, by_next}
 use native.Mathlib.Omega.{arith}
-use borrow.Author.Rules.{rules}
 use Rattle.hearing.proofs.contradicting.packet_contradicts.Goals as goal
 
 pub returns-then-marks-k-eq1 : goal.returns-then-marks-k-eq1

@@ -1,6 +1,5 @@
 -- `hearing::following::follow` meets its contract. Assumes nothing.
 use Rattle.hearing.proofs.SpanKept.{follow_done, follow_refused}
-use borrow.Author.Rules.{rules}
 use Rattle.hearing.proofs.following.follow.Goals as goal
 
 pub returns-then-number-eq0 : goal.returns-then-number-eq0

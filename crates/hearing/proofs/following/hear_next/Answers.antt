@@ -9,7 +9,6 @@ use Rattle.reception.proofs.KeptAsHeld.{matched_lists}
 use Rattle.hearing.proofs.Judged.{frame_read, packet_judged, closing_judged, closing_only, unread}
 use Rattle.hearing.proofs.SpanKept.{follows_still, same_follows}
 use native.Mathlib.Omega.{arith}
-use borrow.Author.Rules.{rules}
 use Rattle.hearing.proofs.following.hear_next.Goals as goal
 use Rattle.hearing.proofs.following.hear_next.Lts as lts
 use Rattle.hearing.proofs.following.hear_next.Tie as tie

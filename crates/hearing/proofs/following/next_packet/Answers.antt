@@ -2,7 +2,6 @@
 use Rattle.hearing.proofs.Judged.{explained, packet_with}
 use Rattle.hearing.proofs.SpanKept.{follows_packet, same_follows}
 use native.Mathlib.Omega.{arith}
-use borrow.Author.Rules.{rules}
 use Rattle.hearing.proofs.following.next_packet.Goals as goal
 
 pub take_packet-number-requires : goal.take_packet-number-requires

@@ -1,6 +1,5 @@
 -- `hearing::looking::end_below` meets its contract. Assumes nothing.
-use Rattle.hearing.proofs.NeighboursFound.{Down, down_start, down_none, down_found, down_on}
-use borrow.Author.Rules.{rules}
+use Rattle.hearing.proofs.NeighboursFound.{Down}
 use Rattle.hearing.proofs.looking.end_below.Given as goal
 
 abbrev pub invariant-loop-j : goal.invariant-loop-j

@@ -1,8 +1,7 @@
 -- `hearing::looking::next_fits` meets its contract. Assumes nothing.
 use Prim.Native.Nat.{◌-◌}
 use Rattle.reception.specs.Sendings.{held_in}
-use Rattle.hearing.proofs.NeighboursFound.{Up, up_start, up_found, up_on, up_none}
-use borrow.Author.Rules.{rules}
+use Rattle.hearing.proofs.NeighboursFound.{Up}
 use Rattle.hearing.proofs.looking.next_fits.Given as goal
 
 abbrev pub invariant-loop-j : goal.invariant-loop-j

@@ -1,7 +1,6 @@
 -- `hearing::taking::answered` meets its contract. Assumes nothing.
 use mathlib.Core.Path.{◌∙◌}
 use Rattle.hearing.proofs.Answered.{answer_zero, answer_number}
-use borrow.Author.Rules.{rules}
 use Rattle.hearing.proofs.taking.answered.Goals as goal
 
 pub returns-then-number-eq0 : goal.returns-then-number-eq0

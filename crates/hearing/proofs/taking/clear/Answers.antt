@@ -1,6 +1,5 @@
 -- `hearing::taking::clear` meets its contract. Assumes nothing.
 use Rattle.hearing.proofs.Cleared.{whole_outside}
-use borrow.Author.Rules.{rules}
 use Rattle.hearing.proofs.taking.clear.Goals as goal
 
 pub clear_heard-requires : goal.clear_heard-requires

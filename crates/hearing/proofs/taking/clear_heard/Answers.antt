@@ -1,9 +1,5 @@
 -- `hearing::taking::clear_heard` meets its contract. Assumes nothing.
-use Prim.Native.Nat.{◌-◌, ◌≤◌}
-use lib.ListN.{length}
-use Rattle.hearing.specs.Following.{Cleared}
 use Rattle.hearing.proofs.Cleared.{one_cleared, all_cleared}
-use borrow.Author.Rules.{rules}
 use native.Mathlib.Omega.{arith}
 use Rattle.hearing.proofs.taking.clear_heard.Goals as goal
 

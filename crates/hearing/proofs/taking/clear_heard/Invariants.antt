@@ -2,9 +2,6 @@
 use Prim.Native.Nat.{◌-◌, ◌≤◌}
 use lib.ListN.{length}
 use Rattle.hearing.specs.Following.{Cleared}
-use Rattle.hearing.proofs.Cleared.{one_cleared, all_cleared}
-use borrow.Author.Rules.{rules}
-use native.Mathlib.Omega.{arith}
 use Rattle.hearing.proofs.taking.clear_heard.Given as goal
 
 abbrev pub invariant-loop-k : goal.invariant-loop-k

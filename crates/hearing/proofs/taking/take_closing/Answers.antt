@@ -1,7 +1,6 @@
 -- `hearing::taking::take_closing` meets its contract. Assumes nothing.
 use mathlib.Core.Path.{refl, sym, ◌∙◌}
 use Rattle.hearing.proofs.Answered.{refused_as, taken_as, closing_other, closing_beyond, closing_off_fact, closing_taken}
-use borrow.Author.Rules.{rules}
 use Rattle.hearing.proofs.taking.take_closing.Goals as goal
 
 pub returns-then-other_key : goal.returns-then-other_key

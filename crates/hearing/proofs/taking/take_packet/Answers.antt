@@ -2,7 +2,6 @@
 use mathlib.Core.Path.{refl, sym, ◌∙◌}
 use Rattle.hearing.proofs.Answered.{refused_as, taken_as, packet_other, packet_beyond, packet_off_fact, packet_taken}
 use native.Mathlib.Omega.{arith}
-use borrow.Author.Rules.{rules}
 use Rattle.hearing.proofs.taking.take_packet.Goals as goal
 
 pub returns-then-other_key : goal.returns-then-other_key

@@ -1,11 +1,9 @@
 -- `joining::searching::is_off` meets its contract. Assumes nothing.
 use native.Mathlib.Omega.{arith}
-use borrow.Author.Tests.{not-true, not-false}
 use Rattle.reception.specs.Sendings.{held_in}
 use Rattle.hearing.proofs.AskedOfNeighbours.{end_back, held_packet, far_off, by_next}
 use Rattle.joining.proofs.Answered.{and_heard, and_unheard}
 use Rattle.joining.proofs.BesideFound.{not_heard, was_heard, above_next}
-use borrow.Author.Rules.{rules}
 use Rattle.joining.proofs.searching.is_off.Goals as goal
 
 pub returns-then-m-ne1 : goal.returns-then-m-ne1

@@ -1,6 +1,5 @@
 -- `joining::searching::is_unheard` meets its contract. Assumes nothing.
 use borrow.Author.Tests.{lt-ltb, le-ltb}
-use borrow.Author.Rules.{rules}
 use Rattle.joining.specs.Beside.{unheard_at}
 use Rattle.joining.proofs.searching.is_unheard.Goals as goal
 

@@ -1,11 +1,7 @@
 -- `joining::searching::lowest_off` meets its contract. Assumes nothing.
-use Prim.Native.Nat.{◌-◌}
-use mathlib.Core.Logic.{⊎_elim}
-use lib.ListN.{length}
 use native.Mathlib.Omega.{arith}
-use Rattle.joining.proofs.BesideFound.{Looking, look_on, beside_found, walks_past, walks_on}
-use Rattle.joining.proofs.LowestSearched.{Searching, search_start, search_on, search_off, search_none}
-use borrow.Author.Rules.{rules}
+use Rattle.joining.proofs.BesideFound.{look_on, beside_found, walks_past, walks_on}
+use Rattle.joining.proofs.LowestSearched.{search_start, search_on, search_off, search_none}
 use Rattle.joining.proofs.searching.lowest_off.Goals as goal
 use Rattle.joining.proofs.searching.lowest_off.Goals.{then-next-k, else-next-k}
 
@@ -36,8 +32,8 @@ loop-k-preserved c =
     let b = beside_found _ _ _ _ _ _ _ _ c.loop-k.invariant.walked c.loop-next.invariant _ c.is_unheard.ensures c.loop-next-test.false in
     let on = search_on _ _ _ _ _ _ _ _ _ _ _ c.loop-k.invariant c.if-marks-k.false _ _ c.from_u32-e.ensures.0 c.from_u16-l.ensures.0 _ c.is_off.ensures c.if-is_off.false in
     elim c.if-next-k.branch [
-      then-next-k w ↦ rw (w.last-is, w.next-is) (on _ _ _ (walks_on _ _ _ _ _ _ _ b w.if-next-k.true c.if-marks-k.false _ _ w.end_of-last.ensures.0 w.end_of-last.ensures.1))
-    | else-next-k w ↦ rw (w.last-is, w.next-is) (on _ _ _ (walks_past _ _ _ _ _ _ _ b w.if-next-k.false))
+      | then-next-k w ↦ rw (w.last-is, w.next-is) (on _ _ _ (walks_on _ _ _ _ _ _ _ b w.if-next-k.true c.if-marks-k.false _ _ w.end_of-last.ensures.0 w.end_of-last.ensures.1))
+      | else-next-k w ↦ rw (w.last-is, w.next-is) (on _ _ _ (walks_past _ _ _ _ _ _ _ b w.if-next-k.false))
     ]
 
 pub returns-then-marks-k : goal.returns-then-marks-k

@@ -1,11 +1,8 @@
 -- `joining::searching::lowest_off` meets its contract. Assumes nothing.
 use Prim.Native.Nat.{◌-◌}
-use mathlib.Core.Logic.{⊎_elim}
 use lib.ListN.{length}
-use native.Mathlib.Omega.{arith}
-use Rattle.joining.proofs.BesideFound.{Looking, look_on, beside_found, walks_past, walks_on}
-use Rattle.joining.proofs.LowestSearched.{Searching, search_start, search_on, search_off, search_none}
-use borrow.Author.Rules.{rules}
+use Rattle.joining.proofs.BesideFound.{Looking}
+use Rattle.joining.proofs.LowestSearched.{Searching}
 use Rattle.joining.proofs.searching.lowest_off.Given as goal
 
 abbrev pub invariant-loop-next : goal.invariant-loop-next

@@ -1,6 +1,5 @@
 -- `joining::searching::next_follows` meets its contract. Assumes nothing.
 use Rattle.joining.proofs.BesideFound.{by_packet, by_closing}
-use borrow.Author.Rules.{rules}
 use Rattle.joining.proofs.searching.next_follows.Goals as goal
 
 pub returns-then-next-marks : goal.returns-then-next-marks

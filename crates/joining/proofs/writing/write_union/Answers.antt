@@ -1,10 +1,7 @@
 -- `joining::writing::write_union` meets its contract. Assumes nothing.
-use Prim.Native.Nat.{◌-◌}
 use mathlib.Core.Path.{refl}
 use native.Mathlib.Omega.{arith}
-use lib.ListN.{length}
-use Rattle.joining.proofs.UnionWritten.{Writing, write_start, write_merged, write_end}
-use borrow.Author.Rules.{rules}
+use Rattle.joining.proofs.UnionWritten.{write_start, write_merged, write_end}
 use Rattle.joining.proofs.writing.write_union.Goals as goal
 
 pub loop-k-init : goal.loop-k-init

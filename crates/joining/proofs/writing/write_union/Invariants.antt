@@ -1,10 +1,7 @@
 -- `joining::writing::write_union` meets its contract. Assumes nothing.
 use Prim.Native.Nat.{◌-◌}
-use mathlib.Core.Path.{refl}
-use native.Mathlib.Omega.{arith}
 use lib.ListN.{length}
-use Rattle.joining.proofs.UnionWritten.{Writing, write_start, write_merged, write_end}
-use borrow.Author.Rules.{rules}
+use Rattle.joining.proofs.UnionWritten.{Writing}
 use Rattle.joining.proofs.writing.write_union.Given as goal
 
 abbrev pub invariant-loop-k : goal.invariant-loop-k

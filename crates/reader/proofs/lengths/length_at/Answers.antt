@@ -7,7 +7,6 @@ use Rattle.fields.proofs.ReadAgain.{be_two}
 use Rattle.fields.proofs.ShiftsAndMasks.{beside, low_bits}
 use Rattle.frame.specs.Layout.{length_at}
 use native.Mathlib.Omega.{arith}
-use borrow.Author.Rules.{rules}
 use Rattle.reader.proofs.lengths.length_at.Goals as goal
 
 -- all of one octet, and the four high bits of the next

@@ -2,7 +2,6 @@
 use mathlib.Core.Path.{◌≡◌}
 use mathlib.Core.Bool.{true, false}
 use Rattle.frame.specs.Counts.{closing_wrong, lengths_wrong}
-use borrow.Author.Rules.{rules}
 use Rattle.reader.proofs.lengths.lengths_wrong.Goals as goal
 
 pub returns-then-closing_wrong : goal.returns-then-closing_wrong

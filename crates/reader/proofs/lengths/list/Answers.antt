@@ -1,6 +1,6 @@
 -- `reader::lengths::list` meets its contract: what is left to list goes on from what is listed. Assumes nothing.
 use mathlib.Core.Path.{◌≡◌, refl, sym, ap, ◌∙◌}
-use mathlib.Core.List.{List, [], ◌∷◌, ◌++◌, append-nil}
+use mathlib.Core.List.{List, ◌∷◌, ◌++◌, append-nil}
 use Prim.Native.Nat.{ℕ, zero, suc, ◌+◌, ◌-◌, ◌<◌, ◌≤◌}
 use native.Mathlib.Nat.{sub-zero}
 use native.Mathlib.Numerals.{add-one}
@@ -9,7 +9,6 @@ use lib.Seq.{take-suc-set, drop-set-lt, append_snoc}
 use Rattle.fields.specs.Runs.{front}
 use Rattle.frame.specs.Layout.{length_at, lengths_of}
 use native.Mathlib.Omega.{arith}
-use borrow.Author.Rules.{rules}
 use Rattle.reader.proofs.lengths.list.Goals as goal
 
 -- a turn's store takes the next length from what is left to what is there

@@ -1,15 +1,9 @@
 -- `reader::lengths::list` meets its contract: what is left to list goes on from what is listed. Assumes nothing.
-use mathlib.Core.Path.{◌≡◌, refl, sym, ap, ◌∙◌}
-use mathlib.Core.List.{List, [], ◌∷◌, ◌++◌, append-nil}
-use Prim.Native.Nat.{ℕ, zero, suc, ◌+◌, ◌-◌, ◌<◌, ◌≤◌}
-use native.Mathlib.Nat.{sub-zero}
-use native.Mathlib.Numerals.{add-one}
-use lib.ListN.{length, take, drop, set, length-set, take-append-drop}
-use lib.Seq.{take-suc-set, drop-set-lt, append_snoc}
-use Rattle.fields.specs.Runs.{front}
-use Rattle.frame.specs.Layout.{length_at, lengths_of}
-use native.Mathlib.Omega.{arith}
-use borrow.Author.Rules.{rules}
+use mathlib.Core.Path.{◌≡◌}
+use mathlib.Core.List.{◌++◌}
+use Prim.Native.Nat.{◌-◌, ◌≤◌}
+use lib.ListN.{length, take, drop}
+use Rattle.frame.specs.Layout.{lengths_of}
 use Rattle.reader.proofs.lengths.list.Given as goal
 
 abbrev pub invariant-loop-i : goal.invariant-loop-i

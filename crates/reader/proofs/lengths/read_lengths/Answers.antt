@@ -15,7 +15,6 @@ use Rattle.frame.specs.Reading.{read_frame}
 use Rattle.frame.proofs.OnePaper.{read_known}
 use Rattle.frame.proofs.Said.{LengthsSaid, lengths_said}
 use Rattle.reader.specs.Lists.{Lists}
-use borrow.Author.Rules.{rules}
 use Rattle.reader.proofs.lengths.read_lengths.Goals as goal
 use Rattle.reader.proofs.lengths.read_lengths.Lts as lts
 use Rattle.reader.proofs.lengths.read_lengths.Tie as tie

@@ -1,6 +1,5 @@
 -- `reader::lengths::sum_lengths` meets its contract: the sum of the first i lengths. Assumes nothing.
 use mathlib.Core.Path.{◌≡◌, refl}
-use Prim.Native.Nat.{◌-◌, ◌*◌, ◌≤◌}
 use native.Mathlib.Numerals.{add-one}
 use Rattle.frame.specs.Layout.{sum_lengths}
 use native.Mathlib.Omega.{arith}

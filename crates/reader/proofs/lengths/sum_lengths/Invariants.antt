@@ -1,9 +1,7 @@
 -- `reader::lengths::sum_lengths` meets its contract: the sum of the first i lengths. Assumes nothing.
-use mathlib.Core.Path.{◌≡◌, refl}
+use mathlib.Core.Path.{◌≡◌}
 use Prim.Native.Nat.{◌-◌, ◌*◌, ◌≤◌}
-use native.Mathlib.Numerals.{add-one}
 use Rattle.frame.specs.Layout.{sum_lengths}
-use native.Mathlib.Omega.{arith}
 use Rattle.reader.proofs.lengths.sum_lengths.Given as goal
 
 abbrev pub invariant-loop-i : goal.invariant-loop-i

@@ -2,7 +2,6 @@
 use mathlib.Core.Path.{◌≡◌, refl}
 use Prim.Native.Nat.{ℕ, zero, suc}
 use Rattle.frame.specs.Layout.{control}
-use borrow.Author.Rules.{rules}
 use Rattle.reader.proofs.parts.control_of.Goals as goal
 
 other : (t : ℕ) → (t ≡ 1 → ⊥) → 17 ≡ control t

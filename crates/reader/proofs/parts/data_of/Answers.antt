@@ -1,5 +1,4 @@
 -- `reader::parts::data_of` meets its contract. Assumes nothing.
-use borrow.Author.Rules.{rules}
 use Rattle.reader.proofs.parts.data_of.Goals as goal
 
 pub returns : goal.returns

@@ -2,7 +2,6 @@
 use mathlib.Core.Path.{refl, sym}
 use lib.Seq.{length-take-le}
 use native.Mathlib.Omega.{arith}
-use borrow.Author.Rules.{rules}
 use Rattle.reader.proofs.parts.header_compared.Goals as goal
 
 pub slice_bounds-header_check-end : goal.slice_bounds-header_check-end

@@ -1,7 +1,6 @@
 -- `reader::parts::least_of` meets its contract. Assumes nothing.
 use mathlib.Core.Path.{sym}
 use Rattle.frame.proofs.Accepted.{least_other}
-use borrow.Author.Rules.{rules}
 use Rattle.reader.proofs.parts.least_of.Goals as goal
 
 pub returns-else-kind-eq1 : goal.returns-else-kind-eq1

@@ -6,7 +6,6 @@ use lib.ListN.{get_or}
 use Rattle.fields.proofs.ReadAgain.{be_two}
 use Rattle.fields.proofs.ShiftsAndMasks.{low_bits}
 use native.Mathlib.Omega.{arith}
-use borrow.Author.Rules.{rules}
 use Rattle.reader.proofs.parts.payload_compared.Goals as goal
 
 pub overflow_cast-given : goal.overflow_cast-given

@@ -1,6 +1,5 @@
 -- `reporting::counting::count` meets its contract. Assumes nothing.
 use Rattle.reporting.proofs.CountedReport.{sound, heard_sent, octets_sent, report_is}
-use borrow.Author.Rules.{rules}
 use Rattle.reporting.proofs.counting.count.Goals as goal
 
 pub overflow_sub-result : goal.overflow_sub-result

@@ -1,11 +1,8 @@
 -- `reporting::counting::tally` meets its contract. Assumes nothing.
-use Prim.Native.Nat.{◌-◌, ◌<◌}
-use mathlib.Core.Logic.{⊎_elim}
+use Prim.Native.Nat.{◌<◌}
 use lib.ListN.{length}
 use native.Mathlib.Omega.{arith}
-use Rattle.reporting.specs.Counting.{Tallied}
 use Rattle.reporting.proofs.Counted.{tally_start, tally_heard, tally_unheard, tally_done}
-use borrow.Author.Rules.{rules}
 use Rattle.reporting.proofs.counting.tally.Goals as goal
 use Rattle.reporting.proofs.counting.tally.Goals.{then-marks-k-eq1, else-marks-k-eq1}
 
@@ -16,11 +13,11 @@ pub loop-k-preserved : goal.loop-k-preserved
 loop-k-preserved c =
     let lt : c.loop-k.k < length c.args.marks.now = omega (arith, c.loop-k-test.true, c.requires.none_from.inside) in
     elim c.if-marks-k-eq1.branch [
-      then-marks-k-eq1 w ↦ rw (w.heard-is, w.octets-is, w.end-is, w.before-is, w.gaps-is) (
-        tally_heard _ _ _ _ _ _ _ _ _ c.loop-k.invariant lt w.if-marks-k-eq1.true _ _ _ w.from_u32-e.ensures.0 w.from_u16-l.ensures w.gap_between-gaps.ensures
-      )
-    | else-marks-k-eq1 w ↦
-      rw (w.heard-is, w.octets-is, w.end-is, w.before-is, w.gaps-is) (tally_unheard _ _ _ _ _ _ _ _ _ c.loop-k.invariant lt w.if-marks-k-eq1.false)
+      | then-marks-k-eq1 w ↦ rw (w.heard-is, w.octets-is, w.end-is, w.before-is, w.gaps-is) (
+          tally_heard _ _ _ _ _ _ _ _ _ c.loop-k.invariant lt w.if-marks-k-eq1.true _ _ _ w.from_u32-e.ensures.0 w.from_u16-l.ensures w.gap_between-gaps.ensures
+          )
+      | else-marks-k-eq1 w ↦
+          rw (w.heard-is, w.octets-is, w.end-is, w.before-is, w.gaps-is) (tally_unheard _ _ _ _ _ _ _ _ _ c.loop-k.invariant lt w.if-marks-k-eq1.false)
     ]
 
 pub returns : goal.returns

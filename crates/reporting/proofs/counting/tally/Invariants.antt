@@ -1,11 +1,6 @@
 -- `reporting::counting::tally` meets its contract. Assumes nothing.
-use Prim.Native.Nat.{◌-◌, ◌<◌}
-use mathlib.Core.Logic.{⊎_elim}
-use lib.ListN.{length}
-use native.Mathlib.Omega.{arith}
+use Prim.Native.Nat.{◌-◌}
 use Rattle.reporting.specs.Counting.{Tallied}
-use Rattle.reporting.proofs.Counted.{tally_start, tally_heard, tally_unheard, tally_done}
-use borrow.Author.Rules.{rules}
 use Rattle.reporting.proofs.counting.tally.Given as goal
 
 abbrev pub invariant-loop-k : goal.invariant-loop-k

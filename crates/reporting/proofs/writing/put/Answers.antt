@@ -1,7 +1,6 @@
 -- `reporting::writing::put` meets its contract. Assumes nothing.
 use Rattle.reporting.proofs.GapPut.{put_none, room_one, put_one}
 use native.Mathlib.Omega.{arith}
-use borrow.Author.Rules.{rules}
 use Rattle.reporting.proofs.writing.put.Goals as goal
 
 pub returns-then-i-k : goal.returns-then-i-k

@@ -1,13 +1,9 @@
 -- `reporting::writing::write_gaps` meets its contract. Assumes nothing.
-use Prim.Native.Nat.{◌-◌}
 use mathlib.Core.Path.{◌∙◌}
-use mathlib.Core.Logic.{⊎_elim}
-use Rattle.reception.specs.Sendings.{held_in}
 use Rattle.reception.proofs.ReportAccounts.{undamaged_sent}
 use Rattle.reporting.proofs.CountedReport.{sound}
 use Rattle.reporting.proofs.GapsLeft.{back, up, last_back, last_up}
-use Rattle.reporting.proofs.GapsWritten.{Writing, writing_start, room_here, heard_on, unheard_on, last_room, all_missing, all_written}
-use borrow.Author.Rules.{rules}
+use Rattle.reporting.proofs.GapsWritten.{writing_start, room_here, heard_on, unheard_on, last_room, all_missing, all_written}
 use Rattle.reporting.proofs.writing.write_gaps.Goals as goal
 use Rattle.reporting.proofs.writing.write_gaps.Goals.{then-marks-k-eq1, else-marks-k-eq1}
 
@@ -23,11 +19,11 @@ put-t-requires c =
 pub loop-k-preserved : goal.loop-k-preserved
 loop-k-preserved c =
     elim c.if-marks-k-eq1.branch [
-      then-marks-k-eq1 w ↦ rw (w.firsts-is, w.counts-is, w.octets-is, w.i-is, w.a-is, w.t-is) (
-        heard_on _ _ _ _ _ _ _ _ _ _ _ _ c.loop-k.invariant c.loop-k-test.true w.if-marks-k-eq1.true _ _ w.from_u32-e.ensures.0 w.from_u16-l.ensures.0 _ _ _ _ w.put-t.ensures.puts w.put-t.ensures.packets_le_k
-      )
-    | else-marks-k-eq1 w ↦
-      rw (w.firsts-is, w.counts-is, w.octets-is, w.i-is, w.a-is, w.t-is) (unheard_on _ _ _ _ _ _ _ _ _ _ _ _ c.loop-k.invariant c.loop-k-test.true w.if-marks-k-eq1.false)
+      | then-marks-k-eq1 w ↦ rw (w.firsts-is, w.counts-is, w.octets-is, w.i-is, w.a-is, w.t-is) (
+          heard_on _ _ _ _ _ _ _ _ _ _ _ _ c.loop-k.invariant c.loop-k-test.true w.if-marks-k-eq1.true _ _ w.from_u32-e.ensures.0 w.from_u16-l.ensures.0 _ _ _ _ w.put-t.ensures.puts w.put-t.ensures.packets_le_k
+          )
+      | else-marks-k-eq1 w ↦
+          rw (w.firsts-is, w.counts-is, w.octets-is, w.i-is, w.a-is, w.t-is) (unheard_on _ _ _ _ _ _ _ _ _ _ _ _ c.loop-k.invariant c.loop-k-test.true w.if-marks-k-eq1.false)
     ]
 
 pub put-requires : goal.put-requires

@@ -4,7 +4,6 @@ use mathlib.Core.Path.{◌≡◌, sym, ap, ◌∙◌}
 use mathlib.Core.Bool.{true, false}
 use Rattle.frame.specs.Counts.{closing_wrong}
 use Rattle.sender.specs.State.{damaged, closing_by}
-use borrow.Author.Rules.{rules}
 use Rattle.sender.proofs.state.is_damaged.Goals as goal
 
 pub returns-then-s-gt-LAST_STAMP : goal.returns-then-s-gt-LAST_STAMP

@@ -1,5 +1,4 @@
 -- `sender::state::not_later` meets its contract. Assumes nothing.
-use borrow.Author.Rules.{rules}
 use Rattle.sender.proofs.state.not_later.Goals as goal
 
 pub returns-in-Closed : goal.returns-in-Closed

@@ -3,7 +3,6 @@ use borrow.Author.Tests.{eq-eqb, ne_eqb}
 use mathlib.Core.Path.{◌≡◌, sym, ◌∙◌}
 use mathlib.Core.Bool.{true, false}
 use Rattle.frame.specs.Counts.{some_of}
-use borrow.Author.Rules.{rules}
 use Rattle.sender.proofs.state.rest_wrong.Goals as goal
 
 pub returns-then-stamp-ne0 : goal.returns-then-stamp-ne0

@@ -1,6 +1,5 @@
 -- `telling::figures::put_close` meets its contract. Assumes nothing.
 use native.Mathlib.Omega.{arith}
-use borrow.Author.Rules.{rules}
 use Rattle.telling.proofs.AccountParts.{puts_close}
 use Rattle.telling.proofs.figures.put_close.Goals as goal
 

@@ -1,6 +1,5 @@
 -- `telling::figures::put_figures` meets its contract. Assumes nothing.
 use native.Mathlib.Omega.{arith}
-use borrow.Author.Rules.{rules}
 use Rattle.telling.proofs.LineParts.{line_within}
 use Rattle.telling.proofs.AccountParts.{puts_figures}
 use Rattle.telling.proofs.figures.put_figures.Goals as goal

@@ -1,6 +1,5 @@
 -- `telling::figures::put_sequence` meets its contract. Assumes nothing.
 use native.Mathlib.Omega.{arith}
-use borrow.Author.Rules.{rules}
 use Rattle.telling.proofs.LineParts.{begun_within}
 use Rattle.telling.proofs.AccountParts.{puts_sequence}
 use Rattle.telling.proofs.figures.put_sequence.Goals as goal

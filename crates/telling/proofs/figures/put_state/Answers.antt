@@ -1,6 +1,5 @@
 -- `telling::figures::put_state` meets its contract. Assumes nothing.
 use native.Mathlib.Omega.{arith}
-use borrow.Author.Rules.{rules}
 use Rattle.telling.proofs.figures.put_state.Goals as goal
 
 pub returns-then-closed : goal.returns-then-closed

@@ -1,6 +1,5 @@
 -- `telling::gaps::put_gap` meets its contract. Assumes nothing.
 use native.Mathlib.Omega.{arith}
-use borrow.Author.Rules.{rules}
 use Rattle.telling.proofs.LineParts.{begun_within, puts_ended}
 use Rattle.telling.proofs.AccountParts.{puts_no_gap, puts_gap}
 use Rattle.telling.specs.Account.{gap_word}

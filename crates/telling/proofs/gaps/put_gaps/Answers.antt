@@ -1,14 +1,10 @@
 -- `telling::gaps::put_gaps` meets its contract. Assumes nothing.
-use Prim.Native.Nat.{◌-◌}
 use mathlib.Core.Path.{◌∙◌}
-use mathlib.Core.Logic.{⊎_elim}
 use native.Mathlib.Omega.{arith}
-use Rattle.reception.specs.Sendings.{held_in}
 use Rattle.reception.proofs.ReportAccounts.{undamaged_sent}
 use Rattle.reporting.proofs.CountedReport.{sound}
 use Rattle.reporting.proofs.GapsLeft.{back, up, last_back, last_up}
-use Rattle.telling.proofs.GapsTold.{Telling, telling_start, line_fits, heard_told, unheard_told, all_told}
-use borrow.Author.Rules.{rules}
+use Rattle.telling.proofs.GapsTold.{telling_start, line_fits, heard_told, unheard_told, all_told}
 use Rattle.telling.proofs.gaps.put_gaps.Goals as goal
 use Rattle.telling.proofs.gaps.put_gaps.Goals.{then-marks-k-eq1, else-marks-k-eq1}
 
@@ -24,10 +20,10 @@ put_gap-w-requires c =
 pub loop-k-preserved : goal.loop-k-preserved
 loop-k-preserved c =
     elim c.if-marks-k-eq1.branch [
-      then-marks-k-eq1 w ↦ rw (w.out-is, w.i-is, w.a-is, w.w-is) (
-        heard_told _ _ _ _ _ _ _ _ _ c.loop-k.invariant c.loop-k-test.true w.if-marks-k-eq1.true _ _ w.from_u32-e.ensures.0 w.from_u16-l.ensures.0 _ _ w.put_gap-w.auto.out w.put_gap-w.ensures
-      )
-    | else-marks-k-eq1 w ↦ rw (w.out-is, w.i-is, w.a-is, w.w-is) (unheard_told _ _ _ _ _ _ _ _ _ c.loop-k.invariant c.loop-k-test.true w.if-marks-k-eq1.false)
+      | then-marks-k-eq1 w ↦ rw (w.out-is, w.i-is, w.a-is, w.w-is) (
+          heard_told _ _ _ _ _ _ _ _ _ c.loop-k.invariant c.loop-k-test.true w.if-marks-k-eq1.true _ _ w.from_u32-e.ensures.0 w.from_u16-l.ensures.0 _ _ w.put_gap-w.auto.out w.put_gap-w.ensures
+          )
+      | else-marks-k-eq1 w ↦ rw (w.out-is, w.i-is, w.a-is, w.w-is) (unheard_told _ _ _ _ _ _ _ _ _ c.loop-k.invariant c.loop-k-test.true w.if-marks-k-eq1.false)
     ]
 
 pub put_gap-requires : goal.put_gap-requires

@@ -1,6 +1,5 @@
 -- `telling::parts::put_pair` meets its contract. Assumes nothing.
 use native.Mathlib.Omega.{arith}
-use borrow.Author.Rules.{rules}
 use Rattle.telling.proofs.LineParts.{begun_within, puts_ended}
 use Rattle.telling.proofs.parts.put_pair.Goals as goal
 

@@ -1,6 +1,5 @@
 -- `telling::parts::put_three` meets its contract. Assumes nothing.
 use native.Mathlib.Omega.{arith}
-use borrow.Author.Rules.{rules}
 use Rattle.telling.proofs.LineParts.{begun_within, puts_third}
 use Rattle.telling.proofs.parts.put_three.Goals as goal
 

@@ -1,6 +1,5 @@
 -- `telling::parts::put_two` meets its contract. Assumes nothing.
 use native.Mathlib.Omega.{arith}
-use borrow.Author.Rules.{rules}
 use Rattle.telling.proofs.LineParts.{number_within, puts_single, puts_second}
 use Rattle.telling.proofs.parts.put_two.Goals as goal
 

@@ -1,5 +1,4 @@
 -- `writer::given::given_wrong` meets its contract. Assumes nothing.
-use native.Mathlib.Omega.{arith}
 use mathlib.Core.Path.{◌≡◌, sym, ◌∙◌}
 use mathlib.Core.Bool.{true, false}
 use Rattle.frame.specs.Counts.{too_wide, given_wrong}

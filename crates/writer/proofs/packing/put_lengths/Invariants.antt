@@ -1,20 +1,12 @@
 -- `writer::packing::put_lengths` meets its contract: what is left, laid from here, is all, laid from the start. Assumes nothing.
-use borrow.Author.Rules.{rules}
-use mathlib.Core.Path.{◌≡◌, refl, sym, ◌∙◌}
-use mathlib.Core.List.{List, [], ◌∷◌}
+use mathlib.Core.Path.{◌≡◌}
 use mathlib.Core.Bool.{false}
-use Prim.Native.Nat.{ℕ, suc, ◌+◌, ◌-◌, ◌*◌, ◌<◌, ◌≤◌}
-use native.Mathlib.Omega.{arith}
-use native.Mathlib.Numerals.{add-one, add-two}
-use lib.ListN.{length, drop, get_or, drop_of_length-le}
-use lib.Seq.{drop-cons}
-use Rattle.fields.specs.Numbers.{octets}
+use Prim.Native.Nat.{◌+◌, ◌-◌, ◌≤◌}
+use lib.ListN.{length, drop}
 use Rattle.fields.specs.Runs.{laid}
-use Rattle.fields.proofs.Laying.{laid_then, laid_none}
 use Rattle.frame.specs.Counts.{any_above}
 use Rattle.frame.specs.Layout.{filled}
 use Rattle.frame.specs.Writing.{packed}
-use Rattle.frame.proofs.Fitting.{above_head}
 use Rattle.writer.proofs.packing.put_lengths.Given as goal
 
 abbrev pub invariant-loop-i : goal.invariant-loop-i

@@ -8,7 +8,6 @@ use Rattle.fields.specs.Runs.{laid}
 use Rattle.fields.proofs.Laying.{stored_two}
 use Rattle.writer.proofs.Packed.{last_packed}
 use native.Mathlib.Omega.{arith}
-use borrow.Author.Rules.{rules}
 use Rattle.writer.proofs.packing.put_one.Goals as goal
 
 pub overflow_cast-out-2 : goal.overflow_cast-out-2

@@ -6,7 +6,6 @@ use Rattle.fields.specs.Runs.{laid}
 use Rattle.fields.proofs.Laying.{stored_three}
 use Rattle.writer.proofs.Packed.{shared_octet, two_packed}
 use native.Mathlib.Omega.{arith}
-use borrow.Author.Rules.{rules}
 use Rattle.writer.proofs.packing.put_two.Goals as goal
 
 pub overflow_cast-out-2 : goal.overflow_cast-out-2

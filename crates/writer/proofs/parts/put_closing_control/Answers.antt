@@ -1,5 +1,4 @@
 -- `writer::parts::put_closing_control` meets its contract. Assumes nothing.
-use native.Mathlib.Omega.{arith}
 use mathlib.Core.Path.{◌≡◌, refl}
 use mathlib.Core.List.{◌++◌}
 use Rattle.fields.specs.Numbers.{octets}
