@@ -1,2 +1,1 @@
 pub mod MovedDown
-pub mod ReadBehind
