@@ -1,8 +1,9 @@
 // A buffer that is fed by a reader: octets read behind those that are left, and those moved to its front.
 #![tactic(auto)]
 
-ghost use Rattle.std.specs.Prelude.{◌≡◌, true, false, ◌+◌, ◌≤◌, ltb, length, take, drop};
+ghost use Rattle.std.specs.Prelude.{◌≡◌, true, false, ◌+◌, ◌≤◌, ◌<◌, ltb, length, take, drop, IsOk};
 ghost use Rattle.std.specs.Counts.{IsPrefixLen};
+ghost use Rattle.std.specs.Io.KnownBytes.{Consumes, IsAtEnd};
 ghost use Rattle.feeding.specs.Feeding.{Behind, ReadOn};
 
 use std::io;
@@ -33,7 +34,8 @@ fn try_again(clock: &impl Clock, error: io::Error) -> bool {
 
 // What a read's answer says, by which so many octets were got and so many are there.
 fn fed_by(clock: &impl Clock, have: usize, got: usize, answer: io::Result<usize>) -> Fed
-    ensures { (result.have ≡ have) × (result.failed ≡ true → result.ended ≡ false) × (result.ended ≡ true → got ≡ 0) }
+    ensures told { (result.have ≡ have) × (result.failed ≡ true → result.ended ≡ false) × (result.ended ≡ true → got ≡ 0) }
+    ensures read { result.ended ≡ true → IsOk answer }
 {
     match answer {
         Ok(_) => Fed {
@@ -57,7 +59,9 @@ fn fed_by(clock: &impl Clock, have: usize, got: usize, answer: io::Result<usize>
 // One read behind the octets that are there.
 fn read_once<R: Read>(from: &mut R, clock: &impl Clock, input: &mut [u8], have: usize) -> Fed
     requires { have ≤ length input.old }
-    ensures { Behind have input.old result.have input.new }
+    ensures behind { Behind have input.old result.have input.new }
+    ensures bytes { Consumes (R.remaining from.old) (R.remaining from.new) (drop have (take result.have input.new)) }
+    ensures end { result.ended ≡ true → have < length input.old → IsAtEnd (R.remaining from.new) }
 {
     let behind = &mut input[have..];
     let answer = from.read(behind);
@@ -67,7 +71,8 @@ fn read_once<R: Read>(from: &mut R, clock: &impl Clock, input: &mut [u8], have: 
 
 // How many reads may follow: none where the buffer is full, the input has ended or a read failed.
 fn reads_after(reads: u64, f: Fed, room: usize) -> u64
-    ensures { result ≤ reads }
+    ensures fewer { result ≤ reads }
+    ensures room { f.have ≤ room → 0 < result → f.have < room }
 {
     if f.ended {
         return 0;
@@ -85,7 +90,8 @@ fn reads_after(reads: u64, f: Fed, room: usize) -> u64
 // used up, which counts as failed.
 fn settled(f: Fed, room: usize) -> Fed
     requires { f.have ≤ room }
-    ensures { (result.have ≡ f.have) × (result.failed ≡ false → result.ended ≡ ltb result.have room) × (result.failed ≡ true → result.ended ≡ false) }
+    ensures told { (result.have ≡ f.have) × (result.failed ≡ false → result.ended ≡ ltb result.have room) × (result.failed ≡ true → result.ended ≡ false) }
+    ensures end { result.ended ≡ true → f.ended ≡ true }
 {
     if f.have == room {
         return Fed {
@@ -117,6 +123,8 @@ pub fn read_on<R: Read>(from: &mut R, clock: &impl Clock, input: &mut [u8], have
     requires { have ≤ length input.old }
     ensures prefix_len { IsPrefixLen result.have input.new }
     ensures read_on { ReadOn have input.old result input.new }
+    ensures bytes { Consumes (R.remaining from.old) (R.remaining from.new) (drop have (take result.have input.new)) }
+    ensures end { result.ended ≡ true → IsAtEnd (R.remaining from.new) }
 {
     let mut f = Fed {
         have: have,
