@@ -1,7 +1,7 @@
 // What a call by value and the same call in place gave, compared: the answer, every number of the state, and every octet.
 use frame::Written;
-use libc::STDOUT_FILENO;
 use sender::{Phase, Sender, Turned, Turning};
+use std::io;
 use units::refusal_in_one;
 
 // The two senders, each advanced in its own way.
@@ -105,44 +105,46 @@ fn same_sender(a: Gave, b: Gave) -> bool {
     same_sequence(first, second) && same_period(first, second)
 }
 
-fn say(text: &[u8]) {
-    io::write_all(STDOUT_FILENO, text);
+fn say(to: &impl Print, text: &str) -> io::Result<()> {
+    to.print(text)
 }
 
-fn say_answer(g: Gave) {
+fn say_answer(to: &impl Print, g: Gave) -> io::Result<()> {
     if g.number != 0 {
-        say(b"refused ");
-        io::print_decimal(STDOUT_FILENO, g.number);
-        return;
+        return print!(to; "refused {}", g.number);
     }
     if g.octets == 0 {
-        say(b"done");
-        return;
+        return say(to, "done");
     }
-    io::print_decimal(STDOUT_FILENO, g.octets);
-    say(b" octets");
+    print!(to; "{} octets", g.octets)
 }
 
-fn say_whether(what: &[u8], same: bool) {
-    say(what);
+fn say_whether(to: &impl Print, what: &str, same: bool) -> io::Result<()> {
+    say(to, what)?;
     if same {
-        say(b" alike");
-        return;
+        return say(to, " alike");
     }
-    say(b" NOT alike");
+    say(to, " NOT alike")
 }
 
 // Prints the answer by value, and whether the call in place gave the same. The memories are compared as a whole: what a call
 // leaves alone counts too.
-pub fn compare(name: &[u8], first: Gave, second: Gave, a: &[u8], b: &[u8]) -> Both {
-    say(name);
-    say(b": ");
-    say_answer(first);
-    say_whether(b"; answer", same_answer(first, second));
-    say_whether(b", sender", same_sender(first, second));
-    say_whether(b", octets", same_octets(a, b));
-    say(b"\n");
+pub fn compare(
+    to: &impl Print,
+    name: &str,
+    first: Gave,
+    second: Gave,
+    a: &[u8],
+    b: &[u8],
+) -> io::Result<Both> {
+    say(to, name)?;
+    say(to, ": ")?;
+    say_answer(to, first)?;
+    say_whether(to, "; answer", same_answer(first, second))?;
+    say_whether(to, ", sender", same_sender(first, second))?;
+    say_whether(to, ", octets", same_octets(a, b))?;
+    say(to, "\n")?;
     let by_value = first.sender;
     let in_place = second.sender;
-    Both { by_value, in_place }
+    Ok(Both { by_value, in_place })
 }

@@ -1,5 +1,4 @@
-// Each function lends a sender of its own to one of `bearer`, and gives it back with the answer. A function that makes such a
-// reference is walked by hand, so nothing else stands here.
+// Each function lends a sender of its own to one of `bearer`, and gives it back with the answer.
 ghost use Rattle.std.specs.Prelude.{length};
 ghost use Rattle.frame.specs.Writing.{data_frame, closing_frame, lengths_frame};
 ghost use Rattle.sender.specs.State.{closing_by};

@@ -1,2 +1,3 @@
 pub mod MovedDown
 pub mod ReadBehind
+pub mod ReadBytes

@@ -1,18 +1,15 @@
 // A pause, for a program that has to try again later.
 #![tactic(auto)]
 
-use libc::types::timespec;
+use std::thread;
+use std::time::{Clock, Duration};
 
-// Waits for a time, or until a signal comes. A function that lends a struct is walked by hand, so nothing else stands here.
-fn wait(asked: timespec) {
-    let mut left = asked;
-    libc::nanosleep(&asked, &mut left);
+// Waits for a time. A signal does not cut it short.
+fn wait(clock: &impl Clock, asked: Duration) {
+    thread::sleep(clock, asked);
 }
 
 // Waits a thousandth of a second.
-pub fn pause() {
-    wait(timespec {
-        tv_sec: 0,
-        tv_nsec: 1000000,
-    });
+pub fn pause(clock: &impl Clock) {
+    wait(clock, Duration::from_millis(1));
 }

@@ -1,5 +1,5 @@
 -- What is listed or written is within the room that is lent. Assumes nothing.
-use Rattle.std.proofs.Common.{◌≡◌, ℕ, ◌+◌, ◌≤◌, Bool, false, ltb, List, length, sym, arith, length-take-le, ltb-false}
+use Rattle.std.proofs.Common.{◌≡◌, ℕ, ◌+◌, ◌≤◌, Bool, ltb, List, length, sym, arith, length-take-le, ltb-false}
 use Rattle.units.specs.Limits.{most_payload, last_stamp}
 use Rattle.fields.specs.Choice.{◌when◌otherwise◌}
 use Rattle.fields.proofs.Choosing.{whichever}
@@ -14,7 +14,7 @@ use Rattle.frame.specs.Layout.{filled}
 use Rattle.frame.specs.Listing.{list_lengths}
 use Rattle.frame.specs.Paper.{CountPaper, listed_paper, written_paper}
 use Rattle.frame.specs.Writing.{refuse_write, write_data, write_closing, write_lengths}
-use Rattle.io.specs.Counts.{IsPrefixLen}
+use Rattle.std.specs.Counts.{IsPrefixLen}
 
 counts : (n : ℕ) (xs : List ℕ) → n ≤ length xs → IsPrefixLen n xs
 counts n xs h = (h, sym (length-take-le n xs h))

@@ -1,6 +1,6 @@
 // Frames written again from what was read of them.
 ghost use Rattle.std.specs.Prelude.{◌≡◌, ◌+◌, ◌≤◌, length};
-ghost use Rattle.io.specs.Counts.{IsPrefixLen};
+ghost use Rattle.std.specs.Counts.{IsPrefixLen};
 ghost use Rattle.frame.specs.Paper.{listed_paper, written_paper};
 ghost use Rattle.frame.specs.Sizes.{data_head};
 

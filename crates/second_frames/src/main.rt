@@ -5,15 +5,15 @@
 mod again;
 mod text;
 
-ghost use Rattle.std.specs.Prelude.{◌≡◌, ◌+◌, ◌≤◌, length};
+ghost use Rattle.std.specs.Prelude.{◌≡◌, ◌+◌, ◌≤◌, length, IfOk};
 ghost use Rattle.second_frames.specs.Lent.{Lent};
 
 use again::{list, same_octets, write_again};
-use feeding::{move_down, read_on};
+use feeding::{large_buffer, move_down, read_on};
 use frame::Read;
-use io::write_all;
-use libc::STDOUT_FILENO;
 use lines::put_end;
+use std::io;
+use std::time::Clock;
 use text::{put_again, put_closing, put_data, put_lengths, put_refused, put_written};
 
 // The line of one frame.
@@ -39,29 +39,35 @@ fn tell(frame: &[u8], lengths: &mut [u16], text: &mut [u8]) -> usize
 }
 
 // Prints the text that ends at a place.
-fn print(text: &[u8], end: usize)
+fn print(to: &impl Print, text: &[u8], end: usize) -> io::Result<()>
     requires { end ≤ length text.now }
 {
-    write_all(STDOUT_FILENO, &text[..end]);
+    to.write_all(&text[..end])
 }
 
 // Prints a frame's line and writes the frame again. Where other octets come out, they are printed too; a refused frame gives none.
 // Answers whether the same came out.
-fn pass_frame(frame: &[u8], lengths: &mut [u16], room: &mut [u8], text: &mut [u8]) -> bool
+fn pass_frame(
+    to: &impl Print,
+    frame: &[u8],
+    lengths: &mut [u16],
+    room: &mut [u8],
+    text: &mut [u8],
+) -> io::Result<bool>
     requires { Lent lengths.old room.old text.old }
 {
     let told = tell(frame, lengths, text);
-    print(text, told);
+    print(to, text, told)?;
     let size = write_again(frame, lengths, room);
     if size == 0 {
-        return false;
+        return Ok(false);
     }
     if same_octets(frame, &room[..size]) {
-        return true;
+        return Ok(true);
     }
     let end = put_written(text, &room[..size]);
-    print(text, end);
-    false
+    print(to, text, end)?;
+    Ok(false)
 }
 
 // The place behind the case that begins at a place, or that place itself where not all of the case is there.
@@ -83,7 +89,7 @@ fn case_end(input: &[u8], at: usize) -> usize
 // One more, where the frame came out the same. A count that would pass 2^64 - 1 starts over.
 fn counted(again: u64, same: bool) -> u64 {
     if same {
-        return std::num::wrapping_add_u64(again, 1);
+        return again.wrapping_add(1);
     }
     again
 }
@@ -96,24 +102,31 @@ struct Passed {
 }
 
 // Passes the cases that are all there.
-fn pass(input: &[u8], lengths: &mut [u16], room: &mut [u8], text: &mut [u8], before: u64) -> Passed
+fn pass(
+    to: &impl Print,
+    input: &[u8],
+    lengths: &mut [u16],
+    room: &mut [u8],
+    text: &mut [u8],
+    before: u64,
+) -> io::Result<Passed>
     requires { Lent lengths.old room.old text.old }
-    ensures { result.used ≤ length input.now }
+    ensures { IfOk result (λ r. r.used ≤ length input.now) }
 {
     let mut at: usize = 0;
     let mut again = before;
     let mut end = case_end(input, at);
     while 2 <= end - at {
         let first = at + 2;
-        let same = pass_frame(&input[first..end], lengths, room, text);
+        let same = pass_frame(to, &input[first..end], lengths, room, text)?;
         again = counted(again, same);
         at = end;
         end = case_end(input, at);
     }
-    Passed {
+    Ok(Passed {
         used: at,
         again: again,
-    }
+    })
 }
 
 // What is there after a read: the octets that were not passed yet, the frames that came out the same, and whether it was the last.
@@ -125,28 +138,30 @@ struct Done {
 }
 
 // Reads on and passes what is all there. Where nothing is, the input is over: a case that would not fit the buffer is none.
-fn turn(
+fn turn<R: io::Read>(
+    from: &mut R,
+    rt: &(impl Clock + Print),
     input: &mut [u8],
     have: usize,
     lengths: &mut [u16],
     room: &mut [u8],
     text: &mut [u8],
     again: u64,
-) -> Done
+) -> io::Result<Done>
     requires have_in_bounds { have ≤ length input.old }
     requires lent { Lent lengths.old room.old text.old }
-    ensures { result.have ≤ length input.new }
+    ensures { IfOk result (λ r. r.have ≤ length input.new) }
 {
-    let fed = read_on(input, have);
+    let fed = read_on(from, rt, input, have);
     let n = fed.have;
-    let passed = pass(&input[..n], lengths, room, text, again);
+    let passed = pass(rt, &input[..n], lengths, room, text, again)?;
     let used = passed.used;
     move_down(input, used, n - used);
-    Done {
+    Ok(Done {
         have: n - used,
         again: passed.again,
         over: used == 0,
-    }
+    })
 }
 
 // How many turns may follow: none where the input is over.
@@ -160,20 +175,27 @@ fn turns_after(turns: u64, over: bool) -> u64
 }
 
 // Reads until the input is over, and then prints how many frames came out the same.
-fn run(input: &mut [u8], lengths: &mut [u16], room: &mut [u8], text: &mut [u8])
+fn run<R: io::Read>(
+    from: &mut R,
+    rt: &(impl Clock + Print),
+    input: &mut [u8],
+    lengths: &mut [u16],
+    room: &mut [u8],
+    text: &mut [u8],
+) -> io::Result<()>
     requires { Lent lengths.old room.old text.old }
 {
     let mut have: usize = 0;
     let mut again: u64 = 0;
     let mut turns = u64::MAX;
     while turns > 0 {
-        let done = turn(input, have, lengths, room, text, again);
+        let done = turn(from, rt, input, have, lengths, room, text, again)?;
         have = done.have;
         again = done.again;
         turns = turns_after(turns - 1, done.over);
     }
     let end = put_again(text, again);
-    print(text, end);
+    print(rt, text, end)
 }
 
 // The lists that are lent. A frame of 8,192 octets has at most 5,448 lengths.
@@ -195,10 +217,17 @@ fn text_of_frame() -> [u8; 262144]
     [0; 262144]
 }
 
-fn main() {
-    let mut input = io::large_buffer();
+fn main(rt: HostRuntime) -> io::Result<()> {
+    let mut input = large_buffer();
     let mut lengths = list_of_lengths();
     let mut room = room_of_frame();
     let mut text = text_of_frame();
-    run(&mut input, &mut lengths, &mut room, &mut text);
+    run(
+        &mut rt.stdin(),
+        &rt,
+        &mut input,
+        &mut lengths,
+        &mut room,
+        &mut text,
+    )
 }

@@ -1,119 +1,122 @@
 // Each call of the sender, with its answer printed.
 use frame::Written;
-use libc::STDOUT_FILENO;
 use sender::{Dispatch, Sender, Turned, Turning};
+use std::io;
 
-fn say(text: &[u8]) {
-    io::write_all(STDOUT_FILENO, text);
+fn say(to: &impl Print, text: &str) -> io::Result<()> {
+    to.print(text)
 }
 
-fn say_refused(number: u8) {
-    say(b"refused ");
-    io::print_decimal(STDOUT_FILENO, number as u64);
-    say(b"\n");
+fn say_refused(to: &impl Print, number: u8) -> io::Result<()> {
+    println!(to; "refused {number}")
 }
 
-fn say_octet(octet: u8) {
-    io::print_hex(STDOUT_FILENO, octet as u64, 2);
+fn say_octet(to: &impl Print, octet: u8) -> io::Result<()> {
+    print!(to; "{octet:02x}")
 }
 
-fn say_octets(octets: &[u8]) {
-    let mut i: usize = 0;
-    while i < octets.len() {
-        say_octet(octets[i]);
-        i += 1;
+fn say_octets(to: &impl Print, octets: &[u8]) -> io::Result<()> {
+    for octet in octets {
+        say_octet(to, *octet)?;
     }
-    say(b"\n");
+    say(to, "\n")
 }
 
-fn turn(name: &[u8], t: Turning) -> Sender {
-    say(name);
-    say(b": ");
+fn turn(to: &impl Print, name: &str, t: Turning) -> io::Result<Sender> {
+    say(to, name)?;
+    say(to, ": ")?;
     let answer = t.answer;
     match answer {
-        Turned::Done => say(b"done\n"),
-        Turned::Refused(r) => say_refused(r.number),
+        Turned::Done => say(to, "done\n")?,
+        Turned::Refused(r) => say_refused(to, r.number)?,
     }
-    t.sender
+    Ok(t.sender)
 }
 
-fn frame(name: &[u8], t: Dispatch, out: &[u8]) -> Sender {
-    say(name);
-    say(b": ");
+fn frame(to: &impl Print, name: &str, t: Dispatch, out: &[u8]) -> io::Result<Sender> {
+    say(to, name)?;
+    say(to, ": ")?;
     let answer = t.answer;
     match answer {
         Written::Done(n) => {
             if n <= out.len() {
-                say_octets(&out[..n]);
+                say_octets(to, &out[..n])?;
             }
         }
-        Written::Refused(r) => say_refused(r.number),
+        Written::Refused(r) => say_refused(to, r.number)?,
     }
-    t.sender
+    Ok(t.sender)
 }
 
-pub fn open(name: &[u8], s: Sender, stamp: u32) -> Sender {
-    turn(name, sender::opened(s, stamp))
+pub fn open(to: &impl Print, name: &str, s: Sender, stamp: u32) -> io::Result<Sender> {
+    turn(to, name, sender::opened(s, stamp))
 }
 
-pub fn renew(name: &[u8], s: Sender) -> Sender {
-    turn(name, sender::renewed(s))
+pub fn renew(to: &impl Print, name: &str, s: Sender) -> io::Result<Sender> {
+    turn(to, name, sender::renewed(s))
 }
 
-pub fn data_into(name: &[u8], s: Sender, payload: &[u8], out: &mut [u8]) -> Sender {
+pub fn data_into(
+    to: &impl Print,
+    name: &str,
+    s: Sender,
+    payload: &[u8],
+    out: &mut [u8],
+) -> io::Result<Sender> {
     let t = sender::sent(s, payload, out);
-    frame(name, t, out)
+    frame(to, name, t, out)
 }
 
-pub fn data(name: &[u8], s: Sender, payload: &[u8]) -> Sender {
+pub fn data(to: &impl Print, name: &str, s: Sender, payload: &[u8]) -> io::Result<Sender> {
     let mut memory = [0u8; 64];
-    data_into(name, s, payload, &mut memory)
+    data_into(to, name, s, payload, &mut memory)
 }
 
-fn close_into(name: &[u8], s: Sender, out: &mut [u8]) -> Sender {
+fn close_into(to: &impl Print, name: &str, s: Sender, out: &mut [u8]) -> io::Result<Sender> {
     let t = sender::closed(s, out);
-    frame(name, t, out)
+    frame(to, name, t, out)
 }
 
-pub fn close(name: &[u8], s: Sender) -> Sender {
+pub fn close(to: &impl Print, name: &str, s: Sender) -> io::Result<Sender> {
     let mut memory = [0u8; 18];
-    close_into(name, s, &mut memory)
+    close_into(to, name, s, &mut memory)
 }
 
-fn close_with_into(name: &[u8], s: Sender, lengths: &[u16], out: &mut [u8]) -> Sender {
+fn close_with_into(
+    to: &impl Print,
+    name: &str,
+    s: Sender,
+    lengths: &[u16],
+    out: &mut [u8],
+) -> io::Result<Sender> {
     let t = sender::closed_with_lengths(s, lengths, out);
-    frame(name, t, out)
+    frame(to, name, t, out)
 }
 
-pub fn close_with(name: &[u8], s: Sender, lengths: &[u16]) -> Sender {
+pub fn close_with(to: &impl Print, name: &str, s: Sender, lengths: &[u16]) -> io::Result<Sender> {
     let mut memory = [0u8; 64];
-    close_with_into(name, s, lengths, &mut memory)
+    close_with_into(to, name, s, lengths, &mut memory)
 }
 
 // A frame of which only the size is printed.
-pub fn size_of_data(name: &[u8], s: Sender, payload: &[u8]) -> Sender {
+pub fn size_of_data(to: &impl Print, name: &str, s: Sender, payload: &[u8]) -> io::Result<Sender> {
     let mut memory = [0u8; 4200];
     let t = sender::sent(s, payload, &mut memory);
-    say(name);
-    say(b": ");
+    say(to, name)?;
+    say(to, ": ")?;
     let answer = t.answer;
     match answer {
-        Written::Done(n) => {
-            io::print_decimal(STDOUT_FILENO, n as u64);
-            say(b" octets\n");
-        }
-        Written::Refused(r) => say_refused(r.number),
+        Written::Done(n) => println!(to; "{n} octets")?,
+        Written::Refused(r) => say_refused(to, r.number)?,
     }
-    t.sender
+    Ok(t.sender)
 }
 
 fn send_many(first: Sender, packets: u32, out: &mut [u8]) -> Sender {
     let mut s = first;
-    let mut i: u32 = 0;
-    while i < packets {
+    for _ in 0..packets {
         let next = sender::sent(s, b"", out);
         s = next.sender;
-        i += 1;
     }
     s
 }
