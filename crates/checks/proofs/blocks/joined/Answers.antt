@@ -1,6 +1,6 @@
 -- `checks::blocks::joined` meets its contract: two words in place of four, one in place of two. Assumes nothing.
 use mathlib.Core.Path.{refl}
-use mathlib.Core.List.{◌∷◌}
+use mathlib.Core.List.{[], ◌∷◌}
 use Rattle.checks.proofs.Folding.{joint}
 use Rattle.checks.proofs.ShortSums.{payload, payload_64, payload_128, payload_256}
 use Rattle.checks.proofs.blocks.joined.Goals as goal

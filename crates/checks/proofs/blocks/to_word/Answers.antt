@@ -1,6 +1,6 @@
 -- `checks::blocks::to_word` meets its contract: the block leaves what the first i octets leave. Assumes nothing.
 use mathlib.Core.Path.{◌≡◌, ap, ◌∙◌}
-use mathlib.Core.List.{◌∷◌}
+use mathlib.Core.List.{[], ◌∷◌}
 use Prim.Native.Nat.{◌%◌}
 use lib.ListN.{length}
 use Rattle.checks.specs.Inside.{passed}
