@@ -5,13 +5,15 @@ use mathlib.Core.Path.{◌≡◌, sym, ◌∙◌}
 use mathlib.Core.Bool.{true, false, cond, false≢true}
 use mathlib.Core.List.{List, [], ◌++◌}
 use lib.ListN.{take}
+use Rattle.std.specs.Prelude.{Option}
 use Rattle.printout.specs.Printed.{Between, text_from}
 use Rattle.printout.specs.Stepping.{between_in}
 use Rattle.passing.specs.Pieces.{InPieces, last, stopped, piece, owing}
 use Rattle.account.specs.declared.Done.{Done}
 use Rattle.account.specs.Turning.{Turned}
 
-module _ (b : Between) (pending : List ℕ) (r : Done) (marks elapsed sizes input out : List ℕ) (t : Turned b pending r marks elapsed sizes input out) where
+module _ (b : Between) (pending : List ℕ) (before after : Option (List ℕ)) (r : Done) (marks elapsed sizes input out : List ℕ)
+    (t : Turned b pending before after r marks elapsed sizes input out) where
   -- the last turn, where the input has ended
   pub last_turn : r.over ≡ true → r.ended ≡ true → InPieces b pending t.got (take r.at out)
   last_turn o e = last (rw (o, e) at t.told)

@@ -1,3 +1,4 @@
 pub mod AllTurns
 pub mod OneTurn
 pub mod Started
+pub mod WholeRun

@@ -4,6 +4,8 @@ use native.Mathlib.Omega.{arith}
 use mathlib.Core.Path.{◌≡◌, sym, ap, ◌∙◌}
 use mathlib.Core.List.{List, ◌++◌}
 use lib.ListN.{length, take, drop, take-append-drop}
+use Rattle.std.specs.Prelude.{Option, true}
+use Rattle.std.specs.Io.KnownBytes.{Consumes, IsAtEnd}
 use lib.Seq.{length-take-le, take-take, take-add, drop_at}
 use Rattle.lines.proofs.Putting.{puts_whole}
 use Rattle.printout.specs.declared.Went.{Went}
@@ -42,12 +44,15 @@ module _ (b : Between) (have : ℕ) (old : List ℕ) (f : Fed) (mid : List ℕ) 
         (take (f.have - w.used) new)
     all_told = rw (read_behind have old f mid r, moved, puts_whole p.puts, ← behind_passed w.used f.have mid passed_in r.behind.within) p.told
 
-    pub turn_done : Turned b (take have old)
-        (record { going = w.going; have = f.have - w.used; at = w.at; over = w.stops; ended = f.ended; failed = f.failed }) marks elapsed sizes new out
-    turn_done =
+    pub turn_done : (before after : Option (List ℕ)) → Consumes before after (drop have (take f.have mid)) → (f.ended ≡ true → IsAtEnd after)
+        → Turned b (take have old) before after
+        (record { going = w.going; have = f.have - w.used; at = w.at; over = w.stops; ended = f.ended; failed = f.failed; error = f.error }) marks elapsed sizes new out
+    turn_done before after bytes at_end =
         let i = r.behind.within in
         record {
           got = drop have (take f.have mid);
+          bytes = bytes;
+          at_end = at_end;
           told = all_told;
           ends = λ n. rw (read_behind have old f mid r, mid_long, same) (r.ends n);
           apart = r.apart;

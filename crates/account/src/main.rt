@@ -3,21 +3,23 @@
 
 mod failures;
 
-ghost use Rattle.std.specs.Prelude.{◌≡◌, ◌+◌, ◌≤◌, length, take, drop};
+ghost use Rattle.std.specs.Prelude.{◌≡◌, ◌+◌, ◌≤◌, ◌<◌, true, false, length, take, drop, IsOk};
 ghost use Rattle.printout.specs.Stepping.{between_in};
-ghost use Rattle.account.specs.Turning.{Turned, Turns};
+ghost use Rattle.account.specs.Turning.{TellsAll, Turned, Turns};
 
 use failures::{tell_read_failed, tell_usage, tell_write_failed};
-use feeding::{move_down, read_on};
+use feeding::{large_buffer, move_down, read_on};
 use hearing::following::empty_span;
 use hearing::taking::{clear, open_head};
-use io::write_all;
-use libc::STDOUT_FILENO;
 use passing::pass;
 use printout::Going;
+use std::env::{Env, FillError};
+use std::io;
+use std::io::{Read, Write};
+use std::time::Clock;
 
 // What is there after a read: the octets that were not passed yet, where the text to print ends, whether it is the last, and
-// whether the input has ended or a read failed.
+// whether the input has ended or a read failed, and why.
 #[derive(Clone, Copy)]
 struct Done {
     going: Going,
@@ -26,11 +28,14 @@ struct Done {
     over: bool,
     ended: bool,
     failed: bool,
+    error: Option<io::Error>,
 }
 
 // Reads on, passes the items that are all there, and puts what they print into memory. A failed read does not end the input, so
 // no last account is put there.
-fn turn(
+fn turn<R: Read>(
+    from: &mut R,
+    clock: &impl Clock,
     g: Going,
     marks: &mut [u8],
     elapsed: &mut [u32],
@@ -41,9 +46,9 @@ fn turn(
 ) -> Done
     requires { Turns g marks.old elapsed.old sizes.old input.old have }
     ensures { Turned (between_in g marks.old elapsed.old sizes.old) (take have input.old)
-        result marks.new elapsed.new sizes.new input.new out.new }
+        (R.remaining from.old) (R.remaining from.new) result marks.new elapsed.new sizes.new input.new out.new }
 {
-    let fed = read_on(input, have);
+    let fed = read_on(from, clock, input, have);
     let n = fed.have;
     let w = pass(g, marks, elapsed, sizes, &input[..n], fed.ended, out);
     let going = w.going;
@@ -56,15 +61,17 @@ fn turn(
         over: w.stops,
         ended: fed.ended,
         failed: fed.failed,
+        error: fed.error,
     }
 }
 
 // How many turns may follow: none where all is told, a read failed, or a write does.
-fn turns_after(turns: u64, over: bool, failed: bool, told: bool) -> u64
-    ensures { result ≤ turns }
+fn turns_after(to: &impl Eprint, turns: u64, over: bool, failed: bool, told: io::Result<()>) -> u64
+    ensures fewer { result ≤ turns }
+    ensures more { 0 < result → (over ≡ false) × IsOk told }
 {
-    if !told {
-        tell_write_failed();
+    if let Err(error) = told {
+        tell_write_failed(to, error);
         return 0;
     }
     if over {
@@ -76,16 +83,33 @@ fn turns_after(turns: u64, over: bool, failed: bool, told: bool) -> u64
     turns
 }
 
-// A failed read is told at once, before a write can change the reason that the system gives.
-fn tell_cut(failed: bool) {
+// Whether all is told: this was the last of the text, and it is written.
+fn told_all(over: bool, told: io::Result<()>) -> bool
+    ensures { result ≡ true → (over ≡ true) × IsOk told }
+{
+    over && told.is_ok()
+}
+
+// A failed read is told at once, before what was read so far is printed.
+fn tell_cut(to: &impl Eprint, failed: bool, error: Option<io::Error>) {
     if failed {
-        tell_read_failed();
+        tell_read_failed(to, error);
     }
 }
 
-// Reads until the input ends or a read fails, and prints.
-fn run(marks: &mut [u8], elapsed: &mut [u32], sizes: &mut [u16], input: &mut [u8], out: &mut [u8])
+// Reads until the input ends or a read fails, and prints. Answers whether all is told.
+fn run<R: Read, W: Write>(
+    from: &mut R,
+    to: &mut W,
+    rt: &(impl Clock + Eprint),
+    marks: &mut [u8],
+    elapsed: &mut [u32],
+    sizes: &mut [u16],
+    input: &mut [u8],
+    out: &mut [u8],
+) -> bool
     requires { (length marks.old ≡ 4096) × (length elapsed.old ≡ 4096) × (length sizes.old ≡ 4096) }
+    ensures { result ≡ true → TellsAll (R.remaining from.old) (W.contents to.old) (W.contents to.new) }
 {
     clear(marks, elapsed, sizes);
     let mut going = Going {
@@ -96,15 +120,18 @@ fn run(marks: &mut [u8], elapsed: &mut [u32], sizes: &mut [u16], input: &mut [u8
         offset: 0,
     };
     let mut have: usize = 0;
+    let mut all = false;
     let mut turns = u64::MAX;
     while turns > 0 {
-        let t = turn(going, marks, elapsed, sizes, input, have, out);
-        tell_cut(t.failed);
-        let told = write_all(STDOUT_FILENO, &out[..t.at]);
+        let t = turn(from, rt, going, marks, elapsed, sizes, input, have, out);
+        tell_cut(rt, t.failed, t.error);
+        let told = to.write_all(&out[..t.at]);
+        all = told_all(t.over, told);
         going = t.going;
         have = t.have;
-        turns = turns_after(turns - 1, t.over, t.failed, told);
+        turns = turns_after(rt, turns - 1, t.over, t.failed, told);
     }
+    all
 }
 
 // The lists of a record of 4,096 places, and the buffers.
@@ -132,19 +159,39 @@ fn text_buffer() -> [u8; 524288]
     [0; 524288]
 }
 
-fn print_accounts() {
+fn print_accounts<R: Read, W: Write>(from: &mut R, to: &mut W, rt: &(impl Clock + Eprint)) -> bool
+    ensures { result ≡ true → TellsAll (R.remaining from.old) (W.contents to.old) (W.contents to.new) }
+{
     let mut marks = marks_of_record();
     let mut elapsed = elapsed_of_record();
     let mut sizes = sizes_of_record();
-    let mut input = io::large_buffer();
+    let mut input = large_buffer();
     let mut out = text_buffer();
-    run(&mut marks, &mut elapsed, &mut sizes, &mut input, &mut out);
+    run(
+        from,
+        to,
+        rt,
+        &mut marks,
+        &mut elapsed,
+        &mut sizes,
+        &mut input,
+        &mut out,
+    )
 }
 
-fn main() {
-    if os::arg_count() > 1 {
-        tell_usage();
+// Whether the program was given an argument, behind its own name.
+fn has_argument(env: &impl Env) -> bool {
+    let mut text = [0u8; 64];
+    match env.arg(1, &mut text) {
+        Err(FillError::NotPresent) => false,
+        _ => true,
+    }
+}
+
+fn main(rt: HostRuntime) {
+    if has_argument(&rt) {
+        tell_usage(&rt);
         return;
     }
-    print_accounts();
+    print_accounts(&mut rt.stdin(), &mut rt.stdout(), &rt);
 }
