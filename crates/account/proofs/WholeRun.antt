@@ -7,7 +7,7 @@ use Rattle.std.proofs.KnownBytes.{Appends-nil, Appends-trans}
 use Rattle.printout.specs.Printed.{Between, nothing_yet, text_from, program_text}
 use Rattle.printout.specs.Stepping.{between_in}
 use Rattle.account.specs.declared.Done.{Done}
-use Rattle.account.specs.Turning.{Turned, TellsAll}
+use Rattle.account.specs.Turning.{Turned, TellsAll, TellsFront}
 
 -- of xs these octets are still to be read, and what is printed is the text of all that was passed
 pub record Rest (xs printed : List ℕ) (b : Between) (pending : List ℕ) (left : Option (List ℕ)) : Type 0 where
@@ -90,3 +90,11 @@ all_told b pending left left' r marks elapsed sizes input out t (Some xs) before
 pub written : {T E : Type 0} (r : Result T E) {P : Type 0} → IsOk r → OnOk r P → P
 written (Ok x) ok p = p
 written (Err e) ok p = absurd (false≢true ok)
+
+-- where it stops before the end, the front is told
+pub front_told : (given before : Option (List ℕ)) (b : Between) (pending : List ℕ) (left after : Option (List ℕ)) → SoFar given before b pending left after
+    → TellsFront given before after
+front_told None before b pending left after s = tt
+front_told (Some xs) before b pending left after s =
+    let r = s.rest xs refl in
+    (s.printed, text_from b (pending ++ r.unread), s.appends, r.text)

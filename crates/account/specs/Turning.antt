@@ -28,3 +28,8 @@ pub record Turned (b : Between) (pending : List ℕ) (before after : Option (Lis
 -- of all that the reader gives, where it is known, the program's text was written
 abbrev pub TellsAll : Option (List ℕ) → Option (List ℕ) → Option (List ℕ) → Type 0
 TellsAll given before after = IfSome given (λ xs. Appends before after (program_text xs))
+
+-- no more was read than a front of it, or not all of that was told: what was written is the front of the program's text
+abbrev pub TellsFront : Option (List ℕ) → Option (List ℕ) → Option (List ℕ) → Type 0
+TellsFront given before after =
+    IfSome given (λ xs. (text : List ℕ) × (owed : List ℕ) × Appends before after text × (program_text xs ≡ text ++ owed))

@@ -5,7 +5,8 @@ mod failures;
 
 ghost use Rattle.std.specs.Prelude.{◌≡◌, ◌+◌, ◌≤◌, ◌<◌, true, false, length, take, drop, IsOk};
 ghost use Rattle.printout.specs.Stepping.{between_in};
-ghost use Rattle.account.specs.Turning.{TellsAll, Turned, Turns};
+ghost use Rattle.account.specs.declared.Ran.TheVariants.{Whole, Front};
+ghost use Rattle.account.specs.Turning.{TellsAll, TellsFront, Turned, Turns};
 
 use failures::{tell_read_failed, tell_usage, tell_write_failed};
 use feeding::{large_buffer, move_down, read_on};
@@ -83,11 +84,26 @@ fn turns_after(to: &impl Eprint, turns: u64, over: bool, failed: bool, told: io:
     turns
 }
 
-// Whether all is told: this was the last of the text, and it is written.
-fn told_all(over: bool, told: io::Result<()>) -> bool
-    ensures { result ≡ true → (over ≡ true) × IsOk told }
+// What came of a run: all of the text is written, or its front where a read failed, or a write failed.
+#[derive(Clone, Copy)]
+enum Ran {
+    Whole,
+    Front,
+    Unwritten,
+}
+
+// What came of the run with this turn.
+fn ran_by(over: bool, told: io::Result<()>) -> Ran
+    ensures whole { result ≡ Whole → (over ≡ true) × IsOk told }
+    ensures front { result ≡ Front → (over ≡ false) × IsOk told }
 {
-    over && told.is_ok()
+    if told.is_err() {
+        return Ran::Unwritten;
+    }
+    if over {
+        return Ran::Whole;
+    }
+    Ran::Front
 }
 
 // A failed read is told at once, before what was read so far is printed.
@@ -97,7 +113,7 @@ fn tell_cut(to: &impl Eprint, failed: bool, error: Option<io::Error>) {
     }
 }
 
-// Reads until the input ends or a read fails, and prints. Answers whether all is told.
+// Reads until the input ends or a read fails, and prints. Where the turns are used up, the rest of the input counts as not read.
 fn run<R: Read, W: Write>(
     from: &mut R,
     to: &mut W,
@@ -107,9 +123,10 @@ fn run<R: Read, W: Write>(
     sizes: &mut [u16],
     input: &mut [u8],
     out: &mut [u8],
-) -> bool
+) -> Ran
     requires { (length marks.old ≡ 4096) × (length elapsed.old ≡ 4096) × (length sizes.old ≡ 4096) }
-    ensures { result ≡ true → TellsAll (R.remaining from.old) (W.contents to.old) (W.contents to.new) }
+    ensures whole { result ≡ Whole → TellsAll (R.remaining from.old) (W.contents to.old) (W.contents to.new) }
+    ensures front { result ≡ Front → TellsFront (R.remaining from.old) (W.contents to.old) (W.contents to.new) }
 {
     clear(marks, elapsed, sizes);
     let mut going = Going {
@@ -120,18 +137,18 @@ fn run<R: Read, W: Write>(
         offset: 0,
     };
     let mut have: usize = 0;
-    let mut all = false;
+    let mut ran = Ran::Front;
     let mut turns = u64::MAX;
     while turns > 0 {
         let t = turn(from, rt, going, marks, elapsed, sizes, input, have, out);
         tell_cut(rt, t.failed, t.error);
         let told = to.write_all(&out[..t.at]);
-        all = told_all(t.over, told);
+        ran = ran_by(t.over, told);
         going = t.going;
         have = t.have;
         turns = turns_after(rt, turns - 1, t.over, t.failed, told);
     }
-    all
+    ran
 }
 
 // The lists of a record of 4,096 places, and the buffers.
@@ -159,8 +176,9 @@ fn text_buffer() -> [u8; 524288]
     [0; 524288]
 }
 
-fn print_accounts<R: Read, W: Write>(from: &mut R, to: &mut W, rt: &(impl Clock + Eprint)) -> bool
-    ensures { result ≡ true → TellsAll (R.remaining from.old) (W.contents to.old) (W.contents to.new) }
+fn print_accounts<R: Read, W: Write>(from: &mut R, to: &mut W, rt: &(impl Clock + Eprint)) -> Ran
+    ensures whole { result ≡ Whole → TellsAll (R.remaining from.old) (W.contents to.old) (W.contents to.new) }
+    ensures front { result ≡ Front → TellsFront (R.remaining from.old) (W.contents to.old) (W.contents to.new) }
 {
     let mut marks = marks_of_record();
     let mut elapsed = elapsed_of_record();
