@@ -96,6 +96,7 @@ pub fn answered(h: Head, number: u8) -> Taking
 // A data PDU by its fields and its payload, whose length is the one that is kept, for a record that some sending explains. Answers 0,
 // or the refusal's number: numbers are handed over in registers, where structs would go through memory. The number stands
 // between octets and payload: so octets and length are not fetched by one load of both, which would wait for the stores of each.
+#[tactic(auto, using(crate::proofs::Answered::packet_beyond, crate::proofs::Answered::refused_as))]
 pub fn take_packet(
     h: Head,
     span: Span,

@@ -24,6 +24,7 @@ fn no_head() -> Head
 }
 
 // The head that a list of six numbers says.
+#[tactic(auto, using(crate::proofs::HeadsSaid::few_numbers, crate::proofs::HeadsSaid::wide_bearer, crate::proofs::HeadsSaid::wide_period, crate::proofs::HeadsSaid::wide_stamp, crate::proofs::HeadsSaid::odd_closed, crate::proofs::HeadsSaid::wide_count, crate::proofs::HeadsSaid::a_head))]
 pub fn head_of(numbers: &[u64]) -> Head
     ensures { result ≡ head_of numbers.now }
 {
