@@ -3,9 +3,9 @@
 
 mod failures;
 
-ghost use Rattle.std.specs.Prelude.{◌≡◌, ◌+◌, ◌≤◌, ◌<◌, true, false, length, take, drop, IsOk};
+ghost use Rattle.std.specs.Prelude.{◌≡◌, ◌+◌, ◌≤◌, ◌<◌, true, false, length, take, drop, IsOk, IsErr};
 ghost use Rattle.printout.specs.Stepping.{between_in};
-ghost use Rattle.account.specs.declared.Ran.TheVariants.{Whole, Front};
+ghost use Rattle.account.specs.declared.Ran.TheVariants.{Whole, Front, Unwritten};
 ghost use Rattle.account.specs.Turning.{TellsAll, TellsFront, Turned, Turns};
 
 use failures::{tell_read_failed, tell_usage, tell_write_failed};
@@ -96,6 +96,7 @@ enum Ran {
 fn ran_by(over: bool, told: io::Result<()>) -> Ran
     ensures whole { result ≡ Whole → (over ≡ true) × IsOk told }
     ensures front { result ≡ Front → (over ≡ false) × IsOk told }
+    ensures unwritten { result ≡ Unwritten → IsErr told }
 {
     if told.is_err() {
         return Ran::Unwritten;

@@ -142,6 +142,17 @@ fn output_that_is_closed() {
     assert_eq!(told(&output), format!("account: standard output cannot be written: Bad file descriptor\n{WRITE_FAILED}"));
 }
 
+/// A pipe that nobody reads any more is a failed write, and no signal ends the program.
+#[test]
+fn output_that_nobody_reads() {
+    let (mut ours, theirs) = UnixStream::pair().expect("two sockets");
+    let mut child = spawn(&mut Command::new(program()), OwnedFd::from(theirs), Stdio::piped());
+    drop(child.stdout.take().expect("a pipe from the program"));
+    ours.write_all(&keys(10)).expect("the socket takes the input");
+    drop(ours);
+    assert_eq!(told(&ended(child)), format!("account: standard output cannot be written: Broken pipe\n{WRITE_FAILED}"));
+}
+
 /// The program takes no argument, and does not wait for an input then.
 #[test]
 fn argument_gives_the_usage() {
