@@ -4,15 +4,17 @@ use native.Mathlib.Omega.{arith}
 use mathlib.Core.Path.{◌≡◌, sym, ap, ◌∙◌}
 use mathlib.Core.List.{List, ◌++◌}
 use lib.ListN.{length, take, drop, take-append-drop}
-use Rattle.std.specs.Prelude.{Option, true}
+use Rattle.std.specs.Prelude.{Option, Bool}
 use Rattle.std.specs.Io.KnownBytes.{Consumes, IsAtEnd}
 use lib.Seq.{length-take-le, take-take, take-add, drop_at}
+use Rattle.lines.specs.declared.Text.{Text}
 use Rattle.lines.proofs.Putting.{puts_whole}
 use Rattle.printout.specs.declared.Went.{Went}
 use Rattle.printout.specs.Printed.{Between}
 use Rattle.printout.specs.Stepping.{between_in}
 use Rattle.feeding.specs.declared.Fed.{Fed}
-use Rattle.feeding.specs.Feeding.{ReadOn}
+use Rattle.feeding.specs.declared.End.TheVariants.{Over}
+use Rattle.feeding.specs.Feeding.{is_over, ReadOn}
 use Rattle.passing.specs.Passing.{Told, Passed}
 use Rattle.account.specs.Turning.{Turned}
 
@@ -28,8 +30,8 @@ behind_passed used n s u h =
     let l : length (take used s) ≡ used = length-take-le used s (omega (arith, u, h)) in
     ap (λ (k : ℕ). drop used (take k s)) (sym e) ∙ ap (drop used) (take-add used (n - used) s) ∙ drop_at (take used s) (take (n - used) (drop used s)) used l
 
-module _ (b : Between) (have : ℕ) (old : List ℕ) (f : Fed) (mid : List ℕ) (r : ReadOn have old f mid) (w : Went) (marks elapsed sizes out₀ out : List ℕ)
-    (p : Passed b (take f.have mid) f.ended w marks elapsed sizes out₀ out) where
+module _ (b : Between) (have : ℕ) (old : List ℕ) (f : Fed) (mid : List ℕ) (r : ReadOn have old f mid) (ended : Bool) (is : ended ≡ is_over f.end) (w : Went)
+    (marks elapsed sizes : List ℕ) (to₀ to : Text) (p : Passed b (take f.have mid) ended w marks elapsed sizes to₀ to) (start : to₀.at ≡ 0) where
   mid_long : length (take f.have mid) ≡ f.have
   mid_long = length-take-le f.have mid r.behind.within
 
@@ -40,22 +42,22 @@ module _ (b : Between) (have : ℕ) (old : List ℕ) (f : Fed) (mid : List ℕ) 
   down_in = let u = passed_in in let i = r.behind.within in omega (arith, u, i)
 
   module _ (new : List ℕ) (same : length new ≡ length mid) (moved : take (f.have - w.used) new ≡ take (f.have - w.used) (drop w.used mid)) where
-    all_told : Told b (take have old ++ drop have (take f.have mid)) f.ended (take w.at out) w.stops (between_in w.going marks elapsed sizes)
+    all_told : Told b (take have old ++ drop have (take f.have mid)) (is_over f.end) (take to.at to.out.now) w.stops (between_in w.going marks elapsed sizes)
         (take (f.have - w.used) new)
-    all_told = rw (read_behind have old f mid r, moved, puts_whole p.puts, ← behind_passed w.used f.have mid passed_in r.behind.within) p.told
+    all_told = rw (← is, read_behind have old f mid r, moved, puts_whole (rw start at p.adds.puts), ← behind_passed w.used f.have mid passed_in r.behind.within) p.told
 
-    pub turn_done : (before after : Option (List ℕ)) → Consumes before after (drop have (take f.have mid)) → (f.ended ≡ true → IsAtEnd after)
+    pub turn_done : (out : List ℕ) → out ≡ to.out.now → (before after : Option (List ℕ)) → Consumes before after (drop have (take f.have mid)) → (f.end ≡ Over → IsAtEnd after)
         → Turned b (take have old) before after
-        (record { going = w.going; have = f.have - w.used; at = w.at; over = w.stops; ended = f.ended; failed = f.failed; error = f.error }) marks elapsed sizes new out
-    turn_done before after bytes at_end =
+        (record { going = w.going; have = f.have - w.used; at = to.at; over = w.stops; end = f.end }) marks elapsed sizes new out
+    turn_done out back before after bytes at_end =
         let i = r.behind.within in
         record {
           got = drop have (take f.have mid);
           bytes = bytes;
           at_end = at_end;
-          told = all_told;
-          ends = λ n. rw (read_behind have old f mid r, mid_long, same) (r.ends n);
-          apart = r.apart;
-          at_in = p.at_in;
+          told = rw back all_told;
+          full = λ e. rw (read_behind have old f mid r, mid_long, same) (r.full e);
+          over = λ e. rw (read_behind have old f mid r, mid_long, same) (r.over e);
+          at_in = rw back to.inside;
           turns = record { ready = p.ready; within = omega (arith, i, same) };
         }

@@ -1,13 +1,11 @@
 -- The record before the first item, and what is kept from one read to the next. Assumes nothing.
 use Prim.Native.Nat.{ℕ}
 use mathlib.Core.Path.{◌≡◌, refl, ap, ◌∙◌}
-use mathlib.Core.Bool.{false}
 use mathlib.Core.List.{List}
 use native.Mathlib.Omega.{arith}
 use lib.ListN.{length, replicate, length-replicate}
-use Rattle.reception.specs.declared.Head.{Head}
+use Rattle.std.specs.Prelude.{None}
 use Rattle.reception.specs.Hearing.{open_head}
-use Rattle.hearing.specs.declared.contradicting.Span.{Span}
 use Rattle.hearing.proofs.EmptyRecord.{empty_undamaged, empty_before, empty_from}
 use Rattle.printout.specs.declared.Going.{Going}
 use Rattle.printout.specs.Printed.{nothing_yet}
@@ -15,16 +13,17 @@ use Rattle.printout.specs.Stepping.{between_in, Ready}
 use Rattle.account.specs.Turning.{Turns}
 
 -- nothing was begun
-pub started : (h : Head) (span : Span) (marks elapsed sizes : List ℕ) (place offset : ℕ) → h ≡ open_head 0 0 0 → marks ≡ replicate 4096 0 → elapsed ≡ replicate 4096 0
-    → sizes ≡ replicate 4096 0 → span.end ≡ 0 → Ready (record { begun = false; head = h; span = span; place = place; offset = offset }) marks elapsed sizes
-started h span marks elapsed sizes place offset hh m e z se =
+pub started : (marks elapsed sizes : List ℕ) (place offset : ℕ) → marks ≡ replicate 4096 0 → elapsed ≡ replicate 4096 0 → sizes ≡ replicate 4096 0
+    → Ready (record { begun = None; place = place; offset = offset }) marks elapsed sizes
+started marks elapsed sizes place offset m e z =
     record {
       marks_long = ap length m ∙ length-replicate {A = ℕ} 4096 0;
       elapsed_long = ap length e ∙ length-replicate {A = ℕ} 4096 0;
       sizes_long = ap length z ∙ length-replicate {A = ℕ} 4096 0;
-      undamaged = empty_undamaged 0 0 0 4096 (omega arith) (omega arith) h marks elapsed sizes hh m e z;
-      before = empty_before 0 0 0 4096 (omega arith) (omega arith) h marks elapsed sizes hh m e z span.first;
-      from_end = rw se (empty_from 0 0 0 4096 (omega arith) (omega arith) h marks elapsed sizes hh m e z);
+      undamaged = empty_undamaged 0 0 0 4096 (omega arith) (omega arith) (open_head 0 0 0) marks elapsed sizes refl m e z;
+      before = empty_before 0 0 0 4096 (omega arith) (omega arith) (open_head 0 0 0) marks elapsed sizes refl m e z 4096;
+      from_end = empty_from 0 0 0 4096 (omega arith) (omega arith) (open_head 0 0 0) marks elapsed sizes refl m e z;
+      fresh = λ n. (m, e, z);
     }
 
 pub record Loop (marks₀ elapsed₀ sizes₀ input₀ out₀ marks elapsed sizes input out : List ℕ) (g : Going) (have : ℕ) : Type 0 where
@@ -36,6 +35,6 @@ pub record Loop (marks₀ elapsed₀ sizes₀ input₀ out₀ marks elapsed size
   pub out_same : length out ≡ length out₀
 
 -- it starts where document 01's text does
-pub starts : (h : Head) (span : Span) (marks elapsed sizes : List ℕ) → h ≡ open_head 0 0 0 → marks ≡ replicate 4096 0 → elapsed ≡ replicate 4096 0
-    → sizes ≡ replicate 4096 0 → between_in (record { begun = false; head = h; span = span; place = 0; offset = 0 }) marks elapsed sizes ≡ nothing_yet
-starts h span marks elapsed sizes hh m e z = rw (hh, m, e, z) refl
+pub starts : (marks elapsed sizes : List ℕ) → marks ≡ replicate 4096 0 → elapsed ≡ replicate 4096 0 → sizes ≡ replicate 4096 0
+    → between_in (record { begun = None; place = 0; offset = 0 }) marks elapsed sizes ≡ nothing_yet
+starts marks elapsed sizes m e z = rw (m, e, z) refl

@@ -1,9 +1,12 @@
 -- The turns of the program, one behind the other, tell the program's text of all that the reader gives. Assumes nothing.
 use Rattle.std.proofs.Common.{◌≡◌, ℕ, true, false, cond, List, [], ◌++◌, take, refl, sym, ap, subst, ◌∙◌, append_assoc, append-nil}
 use Rattle.std.proofs.lemmas.Bool.{false≢true}
-use Rattle.std.specs.Prelude.{Option, Some, None, Result, Ok, Err, IsOk, OnOk}
+use Rattle.std.specs.Prelude.{Option, Some, None}
 use Rattle.std.specs.Io.KnownBytes.{Appends, Consumes, IsAtEnd}
 use Rattle.std.proofs.KnownBytes.{Appends-nil, Appends-trans}
+use Rattle.feeding.specs.declared.End.{End}
+use Rattle.feeding.specs.declared.End.TheVariants.{Full, Over, Failed}
+use Rattle.feeding.specs.Feeding.{is_over}
 use Rattle.printout.specs.Printed.{Between, nothing_yet, text_from, program_text}
 use Rattle.printout.specs.Stepping.{between_in}
 use Rattle.account.specs.declared.Done.{Done}
@@ -41,6 +44,12 @@ gave None after got given c e = absurd cc
 gave (Some xs) None got given c e = absurd c
 gave (Some xs) (Some ys) got given c e = record { unread = ys; is = refl; whole = cc }
 
+-- which end it is
+over_is : (e : End) → is_over e ≡ true → e ≡ Over
+over_is Full o = absurd (false≢true o)
+over_is Over o = refl
+over_is (Failed x) o = absurd (false≢true o)
+
 module _ (b : Between) (pending : List ℕ) (left left' : Option (List ℕ)) (r : Done) (marks elapsed sizes input out : List ℕ)
     (t : Turned b pending left left' r marks elapsed sizes input out) (given before after after' : Option (List ℕ))
     (s : SoFar given before b pending left after) (wrote : Appends after after' (take r.at out)) where
@@ -57,8 +66,8 @@ module _ (b : Between) (pending : List ℕ) (left left' : Option (List ℕ)) (r 
     abbrev g : Gave t.got now.unread left'
     g = gave left left' t.got now.unread t.bytes now.is
 
-    ended : r.ended ≡ true → g.unread ≡ []
-    ended e = subst IsAtEnd g.is (t.at_end e)
+    ended : is_over r.end ≡ true → g.unread ≡ []
+    ended e = subst IsAtEnd g.is (t.at_end (over_is r.end e))
 
     told : program_text xs ≡ (s.printed ++ take r.at out) ++ cond r.over [] (text_from next (take r.have input ++ g.unread))
     told =
@@ -85,11 +94,6 @@ all_told b pending left left' r marks elapsed sizes input out t None before afte
 all_told b pending left left' r marks elapsed sizes input out t (Some xs) before after after' s wrote o =
     let text = rw o at (told b pending left left' r marks elapsed sizes input out t (Some xs) before after after' s wrote xs refl) in
     subst (Appends before after') (sym (text ∙ append-nil _)) (appended b pending left left' r marks elapsed sizes input out t (Some xs) before after after' s wrote)
-
--- what holds of a write that did not fail
-pub written : {T E : Type 0} (r : Result T E) {P : Type 0} → IsOk r → OnOk r P → P
-written (Ok x) ok p = p
-written (Err e) ok p = absurd (false≢true ok)
 
 -- where it stops before the end, the front is told
 pub front_told : (given before : Option (List ℕ)) (b : Between) (pending : List ℕ) (left after : Option (List ℕ)) → SoFar given before b pending left after

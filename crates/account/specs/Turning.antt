@@ -1,6 +1,8 @@
 -- What is kept from one read to the next, and what is told at each. Assumes nothing.
-use Rattle.std.specs.Prelude.{ℕ, ◌≤◌, ◌≡◌, true, false, Option, IfSome, List, ◌++◌, ltb, length, take}
+use Rattle.std.specs.Prelude.{ℕ, ◌≤◌, ◌<◌, ◌≡◌, Option, IfSome, List, ◌++◌, length, take}
 use Rattle.std.specs.Io.KnownBytes.{Appends, Consumes, IsAtEnd}
+use Rattle.feeding.specs.declared.End.TheVariants.{Full, Over}
+use Rattle.feeding.specs.Feeding.{is_over}
 use Rattle.printout.specs.declared.Going.{Going}
 use Rattle.printout.specs.Printed.{Between, program_text}
 use Rattle.printout.specs.Stepping.{between_in, Ready}
@@ -13,15 +15,15 @@ pub record Turns (g : Going) (marks elapsed sizes input : List ℕ) (have : ℕ)
   pub within : have ≤ length input
 
 -- of what was pending and what was got the text in memory is told, and the rest is pending. Unless a read failed, the input has ended
--- exactly where they do not fill the buffer; where one failed, it has not ended. What was got is what the reader gave, and where the
--- input has ended the reader has nothing left
+-- exactly where they do not fill the buffer. What was got is what the reader gave, and where the input has ended the reader has nothing
+-- left
 pub record Turned (b : Between) (pending : List ℕ) (before after : Option (List ℕ)) (r : Done) (marks elapsed sizes input out : List ℕ) : Type 0 where
   pub got : List ℕ
   pub bytes : Consumes before after got
-  pub at_end : r.ended ≡ true → IsAtEnd after
-  pub told : Told b (pending ++ got) r.ended (take r.at out) r.over (between_in r.going marks elapsed sizes) (take r.have input)
-  pub ends : r.failed ≡ false → r.ended ≡ ltb (length (pending ++ got)) (length input)
-  pub apart : r.failed ≡ true → r.ended ≡ false
+  pub at_end : r.end ≡ Over → IsAtEnd after
+  pub told : Told b (pending ++ got) (is_over r.end) (take r.at out) r.over (between_in r.going marks elapsed sizes) (take r.have input)
+  pub full : r.end ≡ Full → length (pending ++ got) ≡ length input
+  pub over : r.end ≡ Over → length (pending ++ got) < length input
   pub at_in : r.at ≤ length out
   pub turns : Turns r.going marks elapsed sizes input r.have
 

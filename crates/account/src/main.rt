@@ -3,33 +3,31 @@
 
 mod failures;
 
-ghost use Rattle.std.specs.Prelude.{◌≡◌, ◌+◌, ◌≤◌, ◌<◌, true, false, length, take, drop, IsOk, IsErr};
+ghost use Rattle.std.specs.Prelude.{◌≡◌, length, take};
 ghost use Rattle.printout.specs.Stepping.{between_in};
-ghost use Rattle.account.specs.declared.Ran.TheVariants.{Whole, Front, Unwritten};
+ghost use Rattle.account.specs.declared.Ran.TheVariants.{Whole, Front};
 ghost use Rattle.account.specs.Turning.{TellsAll, TellsFront, Turned, Turns};
 
 use failures::{tell_read_failed, tell_usage, tell_write_failed};
-use feeding::{large_buffer, move_down, read_on};
-use hearing::following::empty_span;
-use hearing::taking::{clear, open_head};
+use feeding::{End, move_down, read_on};
+use hearing::taking::clear;
+use lines::Text;
 use passing::pass;
-use printout::Going;
+use printout::{Going, PLACES};
 use std::env::{Env, FillError};
 use std::io;
 use std::io::{Read, Write};
 use std::time::Clock;
 
-// What is there after a read: the octets that were not passed yet, where the text to print ends, whether it is the last, and
-// whether the input has ended or a read failed, and why.
+// What is there after a read: the octets that were not passed yet, where the text to print ends, whether it is the last, and why
+// reading stopped.
 #[derive(Clone, Copy)]
 struct Done {
     going: Going,
     have: usize,
     at: usize,
     over: bool,
-    ended: bool,
-    failed: bool,
-    error: Option<io::Error>,
+    end: End,
 }
 
 // Reads on, passes the items that are all there, and puts what they print into memory. A failed read does not end the input, so
@@ -51,65 +49,38 @@ fn turn<R: Read>(
 {
     let fed = read_on(from, clock, input, have);
     let n = fed.have;
-    let w = pass(g, marks, elapsed, sizes, &input[..n], fed.ended, out);
+    let mut text = Text { out, at: 0 };
+    let w = pass(
+        g,
+        marks,
+        elapsed,
+        sizes,
+        &input[..n],
+        fed.end.is_over(),
+        &mut text,
+    );
     let going = w.going;
     let used = w.used;
     move_down(input, used, n - used);
     Done {
         going: going,
         have: n - used,
-        at: w.at,
+        at: text.at,
         over: w.stops,
-        ended: fed.ended,
-        failed: fed.failed,
-        error: fed.error,
+        end: fed.end,
     }
 }
 
-// How many turns may follow: none where all is told, a read failed, or a write does.
-fn turns_after(to: &impl Eprint, turns: u64, over: bool, failed: bool, told: io::Result<()>) -> u64
-    ensures fewer { result ≤ turns }
-    ensures more { 0 < result → (over ≡ false) × IsOk told }
-{
-    if let Err(error) = told {
-        tell_write_failed(to, error);
-        return 0;
-    }
-    if over {
-        return 0;
-    }
-    if failed {
-        return 0;
-    }
-    turns
-}
-
-// What came of a run: all of the text is written, or its front where a read failed, or a write failed.
+// What came of a run whose text is written: all of it, or its front where a read failed.
 #[derive(Clone, Copy)]
 enum Ran {
     Whole,
     Front,
-    Unwritten,
-}
-
-// What came of the run with this turn.
-fn ran_by(over: bool, told: io::Result<()>) -> Ran
-    ensures whole { result ≡ Whole → (over ≡ true) × IsOk told }
-    ensures front { result ≡ Front → (over ≡ false) × IsOk told }
-    ensures unwritten { result ≡ Unwritten → IsErr told }
-{
-    if told.is_err() {
-        return Ran::Unwritten;
-    }
-    if over {
-        return Ran::Whole;
-    }
-    Ran::Front
 }
 
 // A failed read is told at once, before what was read so far is printed.
-fn tell_cut(to: &impl Eprint, failed: bool, error: Option<io::Error>) {
-    if failed {
+fn tell_cut(to: &impl Eprint, end: End) {
+    if let End::Failed(error) = end {
         tell_read_failed(to, error);
     }
 }
@@ -124,87 +95,65 @@ fn run<R: Read, W: Write>(
     sizes: &mut [u16],
     input: &mut [u8],
     out: &mut [u8],
-) -> Ran
+) -> io::Result<Ran>
     requires { (length marks.old ≡ 4096) × (length elapsed.old ≡ 4096) × (length sizes.old ≡ 4096) }
-    ensures whole { result ≡ Whole → TellsAll (R.remaining from.old) (W.contents to.old) (W.contents to.new) }
-    ensures front { result ≡ Front → TellsFront (R.remaining from.old) (W.contents to.old) (W.contents to.new) }
+    ensures whole { result ≡ Ok Whole → TellsAll (R.remaining from.old) (W.contents to.old) (W.contents to.new) }
+    ensures front { result ≡ Ok Front → TellsFront (R.remaining from.old) (W.contents to.old) (W.contents to.new) }
 {
     clear(marks, elapsed, sizes);
     let mut going = Going {
-        begun: false,
-        head: open_head(0, 0, 0),
-        span: empty_span(marks.len()),
+        begun: None,
         place: 0,
         offset: 0,
     };
     let mut have: usize = 0;
-    let mut ran = Ran::Front;
-    let mut turns = u64::MAX;
-    while turns > 0 {
+    for _ in 0..u64::MAX {
         let t = turn(from, rt, going, marks, elapsed, sizes, input, have, out);
-        tell_cut(rt, t.failed, t.error);
-        let told = to.write_all(&out[..t.at]);
-        ran = ran_by(t.over, told);
+        tell_cut(rt, t.end);
+        to.write_all(&out[..t.at])?;
+        if t.over {
+            return Ok(Ran::Whole);
+        }
+        if let End::Failed(_) = t.end {
+            break;
+        }
         going = t.going;
         have = t.have;
-        turns = turns_after(rt, turns - 1, t.over, t.failed, told);
     }
-    ran
+    Ok(Ran::Front)
 }
 
-// The lists of a record of 4,096 places, and the buffers.
-fn marks_of_record() -> [u8; 4096]
-    ensures { length result ≡ 4096 }
-{
-    [0; 4096]
-}
-
-fn elapsed_of_record() -> [u32; 4096]
-    ensures { length result ≡ 4096 }
-{
-    [0; 4096]
-}
-
-fn sizes_of_record() -> [u16; 4096]
-    ensures { length result ≡ 4096 }
-{
-    [0; 4096]
-}
-
+// Kept: the check does not find the length of an array as long as this one where it is lent.
 fn text_buffer() -> [u8; 524288]
     ensures { length result ≡ 524288 }
 {
     [0; 524288]
 }
 
-fn print_accounts<R: Read, W: Write>(from: &mut R, to: &mut W, rt: &(impl Clock + Eprint)) -> Ran
-    ensures whole { result ≡ Whole → TellsAll (R.remaining from.old) (W.contents to.old) (W.contents to.new) }
-    ensures front { result ≡ Front → TellsFront (R.remaining from.old) (W.contents to.old) (W.contents to.new) }
+fn print_accounts<R: Read, W: Write>(
+    from: &mut R,
+    to: &mut W,
+    rt: &(impl Clock + Eprint),
+) -> io::Result<Ran>
+    ensures whole { result ≡ Ok Whole → TellsAll (R.remaining from.old) (W.contents to.old) (W.contents to.new) }
+    ensures front { result ≡ Ok Front → TellsFront (R.remaining from.old) (W.contents to.old) (W.contents to.new) }
 {
-    let mut marks = marks_of_record();
-    let mut elapsed = elapsed_of_record();
-    let mut sizes = sizes_of_record();
-    let mut input = large_buffer();
-    let mut out = text_buffer();
     run(
         from,
         to,
         rt,
-        &mut marks,
-        &mut elapsed,
-        &mut sizes,
-        &mut input,
-        &mut out,
+        &mut [0; PLACES],
+        &mut [0; PLACES],
+        &mut [0; PLACES],
+        &mut [0; 65536],
+        &mut text_buffer(),
     )
 }
 
 // Whether the program was given an argument, behind its own name.
 fn has_argument(env: &impl Env) -> bool {
     let mut text = [0u8; 64];
-    match env.arg(1, &mut text) {
-        Err(FillError::NotPresent) => false,
-        _ => true,
-    }
+    !matches!(env.arg(1, &mut text), Err(FillError::NotPresent))
 }
 
 fn main(rt: HostRuntime) {
@@ -212,5 +161,7 @@ fn main(rt: HostRuntime) {
         tell_usage(&rt);
         return;
     }
-    print_accounts(&mut rt.stdin(), &mut rt.stdout(), &rt);
+    if let Err(error) = print_accounts(&mut rt.stdin(), &mut rt.stdout(), &rt) {
+        tell_write_failed(&rt, error);
+    }
 }

@@ -7,11 +7,11 @@ ghost use Rattle.frame.specs.Writing.{data_frame, closing_frame, lengths_frame};
 ghost use Rattle.sender.specs.State.{closing_by};
 ghost use Rattle.sender.specs.Calls.{open_call, data_call, close_call, close_with_call, renew_call, Turns, Sends};
 
-use frame::Written;
-use sender::{Sender, Turned};
+use sender::Sender;
+use units::Refusal;
 
 // Opens a sequence.
-pub fn open(s: &mut Sender, stamp: u32) -> Turned
+pub fn open(s: &mut Sender, stamp: u32) -> Result<(), Refusal>
     ensures { Turns (open_call s.old stamp) (record { answer = result; sender = s.new }) }
 {
     let opened = sender::opened(*s, stamp);
@@ -20,7 +20,7 @@ pub fn open(s: &mut Sender, stamp: u32) -> Turned
 }
 
 // Sends a data PDU.
-pub fn data(s: &mut Sender, payload: &[u8], out: &mut [u8]) -> Written
+pub fn data(s: &mut Sender, payload: &[u8], out: &mut [u8]) -> Result<usize, Refusal>
     ensures { Sends
         (data_call s.old (length payload.now) (length out.old))
         (data_frame s.old.stamp s.old.number.0 s.old.elapsed.0 payload.now)
@@ -32,7 +32,7 @@ pub fn data(s: &mut Sender, payload: &[u8], out: &mut [u8]) -> Written
 }
 
 // Closes the sequence with a Type 0 frame.
-pub fn close(s: &mut Sender, out: &mut [u8]) -> Written
+pub fn close(s: &mut Sender, out: &mut [u8]) -> Result<usize, Refusal>
     ensures { Sends
         (close_call s.old (length out.old))
         (closing_frame (closing_by s.old))
@@ -44,7 +44,7 @@ pub fn close(s: &mut Sender, out: &mut [u8]) -> Written
 }
 
 // Closes the sequence with a Type 3 frame.
-pub fn close_with_lengths(s: &mut Sender, lengths: &[u16], out: &mut [u8]) -> Written
+pub fn close_with_lengths(s: &mut Sender, lengths: &[u16], out: &mut [u8]) -> Result<usize, Refusal>
     ensures { Sends
         (close_with_call s.old lengths.now (length out.old))
         (lengths_frame (closing_by s.old) lengths.now)
@@ -56,7 +56,7 @@ pub fn close_with_lengths(s: &mut Sender, lengths: &[u16], out: &mut [u8]) -> Wr
 }
 
 // Begins a new period.
-pub fn new_period(s: &mut Sender) -> Turned
+pub fn new_period(s: &mut Sender) -> Result<(), Refusal>
     ensures { Turns (renew_call s.old) (record { answer = result; sender = s.new }) }
 {
     let renewed = sender::renewed(*s);

@@ -6,69 +6,68 @@ mod calls;
 mod lent;
 
 use alike::Both;
-use calls::{
-    close, close_no_room, close_with, close_with_no_room, data, data_no_room, new_period, open,
-};
 use sender::{Phase, Sender};
 use std::io;
 use units::{Octets, Packets};
 
-fn both_of(s: Sender) -> Both {
-    Both {
-        by_value: s,
-        in_place: s,
-    }
-}
-
 // What is out of turn before a sequence and in it.
-fn out_of_turn(to: &impl Print, before: Both) -> io::Result<Both> {
-    let mut both = data(to, "data before open", before, b"abc")?;
-    both = close(to, "close before open", both)?;
-    both = open(to, "open 60000", both, 60000)?;
-    both = open(to, "open 100", both, 100)?;
-    both = open(to, "open again", both, 101)?;
-    new_period(to, "new period while open", both)
+fn out_of_turn(both: &mut Both<impl Print>) -> io::Result<()> {
+    both.data::<64>("data before open", b"abc")?;
+    both.close::<64>("close before open")?;
+    both.open("open 60000", 60000)?;
+    both.open("open 100", 100)?;
+    both.open("open again", 101)?;
+    both.new_period("new period while open")
 }
 
 // Frames of the sequence, among them one that has no room and one that is too long.
-fn frames(to: &impl Print, before: Both) -> io::Result<Both> {
-    let payload = [7u8; 4096];
-    let mut both = data(to, "data abc", before, b"abc")?;
-    both = data(to, "data none", both, b"")?;
-    both = data_no_room(to, "data hello, no room", both, b"hello")?;
-    both = data(to, "data of 4096", both, &payload)?;
-    data(to, "data hello", both, b"hello")
+fn frames(both: &mut Both<impl Print>) -> io::Result<()> {
+    both.data::<64>("data abc", b"abc")?;
+    both.data::<64>("data none", b"")?;
+    both.data::<13>("data hello, no room", b"hello")?;
+    both.data::<64>("data of 4096", &[7; 4096])?;
+    both.data::<64>("data hello", b"hello")
 }
 
 // The sequence is closed by a Type 0 frame, and the next one has a later stamp.
-fn closed_plainly(to: &impl Print, before: Both) -> io::Result<Both> {
-    let mut both = close_no_room(to, "close, no room", before)?;
-    both = close(to, "close", both)?;
-    both = open(to, "open 100", both, 100)?;
-    both = open(to, "open 101", both, 101)?;
-    both = data(to, "data x", both, b"x")?;
-    data(to, "data yz", both, b"yz")
+fn closed_plainly(both: &mut Both<impl Print>) -> io::Result<()> {
+    both.close::<17>("close, no room")?;
+    both.close::<64>("close")?;
+    both.open("open 100", 100)?;
+    both.open("open 101", 101)?;
+    both.data::<64>("data x", b"x")?;
+    both.data::<64>("data yz", b"yz")
 }
 
 // The sequence is closed with its lengths.
-fn closed_with_lengths(to: &impl Print, before: Both) -> io::Result<Both> {
-    let other = [1u16, 1];
-    let right = [1u16, 2];
-    let mut both = close_with(to, "close with lengths 1 1", before, &other)?;
-    both = close_with_no_room(to, "close with lengths 1 2, no room", both, &right)?;
-    both = close_with(to, "close with lengths 1 2", both, &right)?;
-    close_with(to, "close with lengths again", both, &right)
+fn closed_with_lengths(both: &mut Both<impl Print>) -> io::Result<()> {
+    both.close_with::<64>("close with lengths 1 1", &[1, 1])?;
+    both.close_with::<21>("close with lengths 1 2, no room", &[1, 2])?;
+    both.close_with::<64>("close with lengths 1 2", &[1, 2])?;
+    both.close_with::<64>("close with lengths again", &[1, 2])
 }
 
 // The next period, with a sequence that has no data.
-fn next_period(to: &impl Print, before: Both) -> io::Result<()> {
-    let mut both = new_period(to, "new period", before)?;
-    both = open(to, "open 0", both, 0)?;
-    close(to, "close without data", both)?;
-    Ok(())
+fn next_period(both: &mut Both<impl Print>) -> io::Result<()> {
+    both.new_period("new period")?;
+    both.open("open 0", 0)?;
+    both.close::<64>("close without data")
 }
 
-fn damaged(to: &impl Print) -> io::Result<()> {
+fn damaged(both: &mut Both<impl Print>) -> io::Result<()> {
+    both.open("open damaged", 6)?;
+    both.data::<64>("data damaged", b"abc")?;
+    both.close::<64>("close damaged")?;
+    both.new_period("new period damaged")
+}
+
+fn main(rt: HostRuntime) -> io::Result<()> {
+    let mut both = Both::new(&rt, sender::fresh());
+    out_of_turn(&mut both)?;
+    frames(&mut both)?;
+    closed_plainly(&mut both)?;
+    closed_with_lengths(&mut both)?;
+    next_period(&mut both)?;
     let s = Sender {
         phase: Phase::Closed,
         stamp: 5,
@@ -77,19 +76,5 @@ fn damaged(to: &impl Print) -> io::Result<()> {
         packets: Packets(1),
         octets: Octets(0),
     };
-    let mut both = open(to, "open damaged", both_of(s), 6)?;
-    both = data(to, "data damaged", both, b"abc")?;
-    both = close(to, "close damaged", both)?;
-    new_period(to, "new period damaged", both)?;
-    Ok(())
-}
-
-fn main(rt: HostRuntime) -> io::Result<()> {
-    let mut both = both_of(sender::fresh());
-    both = out_of_turn(&rt, both)?;
-    both = frames(&rt, both)?;
-    both = closed_plainly(&rt, both)?;
-    both = closed_with_lengths(&rt, both)?;
-    next_period(&rt, both)?;
-    damaged(&rt)
+    damaged(&mut Both::new(&rt, s))
 }

@@ -7,13 +7,14 @@ use native.Mathlib.Nat.{mod-lt, mod-le, add-zero, add_comm, add-suc, zero-add, p
 use native.Mathlib.Omega.{arith}
 use lib.Arith.{digits_div}
 use lib.Pow.{pow_pos, pow-add, pow_mono, split, shl_lt, shr_lt, shl-shr, shr-shr}
-use lib.Bits.{bit_xor, xor_shifted, xor_lt, xor_zero_r, xor_comm}
-use lib.ListN.{length, get_or}
+use lib.Bits.{bit_xor, xor_shifted, xor_lt, xor_zero_r, xor_comm, xor_assoc}
+use lib.ListN.{length, get_or, drop}
+use lib.Seq.{drop-cons}
+use Rattle.std.proofs.lemmas.List.{drop_all}
 use Rattle.fields.specs.Numbers.{be}
 use Rattle.fields.proofs.ReadAgain.{be_lt}
 use Rattle.checks.specs.Check.{divide, low_digits}
 use Rattle.checks.specs.Inside.{Generator, SameAs, feed, leaves, passed, powers, words, ups}
-use Rattle.checks.proofs.Sums.{xor_assoc}
 use Rattle.checks.proofs.Division.{feed_lt, feed_xor, feed_apart, feed_split, feed_zeros, feed_small, feed_low, agree}
 use Rattle.checks.proofs.Rows.{run_nil, passed_next}
 
@@ -24,6 +25,19 @@ pub data Within (n : ℕ) : List ℕ → Type 0 where
 
 pub within_three : {n a b c : ℕ} → a ≤ n → b ≤ n → c ≤ n → Within n (a ∷ b ∷ c ∷ [])
 within_three ha hb hc = more ha (more hb (more hc none))
+
+-- the n words of ws from i on, which are all that stand there
+abbrev words_from : ℕ → List ℕ → ℕ → List ℕ
+words_from zero ws i = []
+words_from (suc n) ws i = get_or ws i 0 ∷ words_from n ws (suc i)
+
+each_word : (n : ℕ) (ws : List ℕ) (i : ℕ) → i + n ≡ length ws → drop i ws ≡ words_from n ws i
+each_word zero ws i h = drop_all i ws (omega arith)
+each_word (suc n) ws i h = drop-cons ws i 0 (omega arith) ∙ ap (λ t. get_or ws i 0 ∷ t) (each_word n ws (suc i) (omega arith))
+
+-- a block, word by word
+pub eight : (ws : List ℕ) → 8 ≡ length ws → ws ≡ words_from 8 ws 0
+eight ws h = each_word 8 ws 0 h
 
 -- how many digits some words have
 abbrev pub span : List ℕ → ℕ

@@ -1,16 +1,18 @@
 -- The rule by which the code finds what the upper digits of a short word leave, in the code's own shifts and masks, and that it
 -- is right: a test at each number that those digits can be. Assumes nothing.
-use mathlib.Core.Path.{◌≡◌, sym, ap, subst, ◌∙◌}
+use mathlib.Core.Path.{◌≡◌, refl, sym, ap, subst, ◌∙◌}
 use Prim.Native.Nat.{ℕ, ◌*◌, ◌/◌, ◌%◌, ◌^◌, ◌<◌}
 use native.Mathlib.Omega.{arith}
 use lib.Bits.{bit_xor, bit_and, and_mask}
-use lib.Dec.{eqb, eqb→eq, lit<, lit≤}
+use lib.Dec.{eqb, lit<, lit≤}
+use borrow.Author.Tests.{eqb-true}
+use mathlib.Core.Bool.{true}
+use Rattle.std.proofs.lemmas.Bool.{agree_below_at}
 use Rattle.checks.specs.Check.{divide, low_digits}
 use Rattle.checks.specs.Inside.{feed, leaves}
 use Rattle.checks.proofs.Division.{feed_lt}
 use Rattle.checks.proofs.Folding.{rest}
 use Rattle.checks.proofs.ShortSums.{header, payload}
-use Rattle.checks.proofs.Tested.{tested}
 
 -- the quotient's digits q times the generator's lower terms
 abbrev header_terms : ℕ → ℕ
@@ -23,7 +25,9 @@ header_rule h = header_terms (bit_xor h (h / 2 ^ 1))
 
 header_rule_lem : {h : ℕ} → h < 4 → header_rule h ≡ feed 0x6F 6 6 h 0
 unfolding divide low_digits
-header_rule_lem {h} i = eqb→eq (header_rule h) (feed 0x6F 6 6 h 0) (tested (λ h. eqb (header_rule h) (feed 0x6F 6 6 h 0)) 4 tt i)
+header_rule_lem {h} i =
+    eqb-true (header_rule h) (feed 0x6F 6 6 h 0)
+    (agree_below_at (λ h. eqb (header_rule h) (feed 0x6F 6 6 h 0)) (λ _. true) 4 h refl i)
 
 pub header_rest : (z : ℕ) → z < 2 ^ 8 → bit_xor (header_rule (z / 2 ^ 6)) (bit_and z 63) ≡ leaves 0x6F 6 z
 header_rest z h =
@@ -50,7 +54,8 @@ payload_rule h =
 payload_rule_lem : {h : ℕ} → h < 512 → payload_rule h ≡ feed 0x633 10 10 h 0
 unfolding divide low_digits
 payload_rule_lem {h} i =
-    eqb→eq (payload_rule h) (feed 0x633 10 10 h 0) (tested (λ h. eqb (payload_rule h) (feed 0x633 10 10 h 0)) 512 tt i)
+    eqb-true (payload_rule h) (feed 0x633 10 10 h 0)
+    (agree_below_at (λ h. eqb (payload_rule h) (feed 0x633 10 10 h 0)) (λ _. true) 512 h refl i)
 
 pub payload_rest : (z : ℕ) → z < 2 ^ 19 → bit_xor (payload_rule (z / 2 ^ 10)) (bit_and z 1023) ≡ leaves 0x633 10 z
 payload_rest z h =

@@ -6,4 +6,3 @@ pub mod Multiple
 pub mod Rows
 pub mod ShortSums
 pub mod Sums
-pub mod Tested

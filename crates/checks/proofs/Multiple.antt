@@ -5,11 +5,11 @@ use mathlib.Core.List.{List, [], ◌∷◌, ◌++◌}
 use Prim.Native.Nat.{ℕ, zero, suc, ◌+◌, ◌*◌, ◌/◌, ◌^◌, ◌<◌}
 use native.Mathlib.Nat.{zero-lt-suc, add-zero}
 use lib.Pow.{pow_pos}
-use lib.Bits.{bit_xor, xor_self, xor_zero_r, xor_comm, xor_block}
+use lib.Bits.{bit_xor, xor_self, xor_zero_r, xor_comm, xor_block, xor_assoc}
 use Rattle.checks.specs.Check.{check, divide, low_digits, bits_of, step}
 use Rattle.checks.specs.Inside.{Generator}
 use Rattle.checks.specs.Rows.{sent, polynomial, multiplied, quotient, Binary, none, more}
-use Rattle.checks.proofs.Sums.{xor_assoc, low}
+use Rattle.checks.proofs.Sums.{low}
 use Rattle.checks.proofs.Division.{feed_apart, feed_small}
 use Rattle.checks.proofs.Rows.{run, run_lt, check_run, check_lt, divide_append}
 

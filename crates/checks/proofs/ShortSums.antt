@@ -55,3 +55,9 @@ payload_38 = refl
 pub payload_19 : SameAs 0x633 10 19 (4 ∷ 1 ∷ 0 ∷ [])
 unfolding divide low_digits
 payload_19 = refl
+
+-- the header's generator, with what brings a row into one word
+pub ruleset header_sums = (header, header_64, header_31)
+
+-- and the payload's
+pub ruleset payload_sums = (payload, payload_512, payload_64, payload_38)

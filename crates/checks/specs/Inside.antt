@@ -1,10 +1,11 @@
 -- What the inner functions promise one another, for every generator that has a short sum of powers of D. No public contract
 -- cites this file. Assumes nothing.
 use Rattle.std.specs.Prelude.{◌≡◌, List, [], ◌∷◌, ℕ, ◌+◌, ◌*◌, ◌%◌, ◌^◌, ◌≤◌, ◌<◌, take}
+use Rattle.std.specs.List.{slice_index}
 use Rattle.std.specs.Int.Bits.{bit_xor}
+use Rattle.checks.specs.Exponents.{exponents}
 use Rattle.checks.specs.Check.{divide, low_digits, bits_of}
-use Rattle.checks.specs.declared.words.Powers.{Powers}
-use Rattle.checks.specs.declared.blocks.Block.{Block}
+use Rattle.checks.specs.declared.powers.Power.{Power}
 
 -- g is a generator of degree k: D^k and some lower terms
 pub record Generator (g k : ℕ) : Type 0 where
@@ -39,30 +40,26 @@ abbrev pub ups : ℕ → List ℕ → ℕ
 ups x [] = 0
 ups x (e ∷ es) = bit_xor (x * 2 ^ e % 2 ^ 64) (ups x es)
 
--- the three exponents
-abbrev pub exponents : Powers → List ℕ
-exponents p = p.0 ∷ p.1 ∷ p.2 ∷ []
+-- where D^n is the sum, 64 digits are cut to 38 by it
+abbrev pub Cuts : Power → Type 0
+Cuts p = (p.n ≤ 38) × (26 + slice_index p.sum 0 ≤ p.n) × (26 + slice_index p.sum 1 ≤ p.n) × (26 + slice_index p.sum 2 ≤ p.n)
 
--- the exponents are at most n
-abbrev pub UpTo : ℕ → Powers → Type 0
-UpTo n p = (p.0 ≤ n) × (p.1 ≤ n) × (p.2 ≤ n)
+-- the power leaves what its sum leaves
+abbrev pub Holds : ℕ → ℕ → Power → Type 0
+Holds g k p = SameAs g k p.n (exponents p.sum)
 
--- where D^n is the powers short, 64 digits are cut to 38 by them
-abbrev pub Cuts : ℕ → Powers → Type 0
-Cuts n short = (n ≤ 38) × (26 + short.0 ≤ n) × (26 + short.1 ≤ n) × (26 + short.2 ≤ n)
+-- r stands for x times the sum by, plus y, wherever the power short holds
+pub record Folded (by : List ℕ) (short : Power) (x y r : ℕ) : Type 0 where
+  pub same : {g k : ℕ} → Generator g k → Holds g k short → leaves g k r ≡ bit_xor (powers g k (exponents by) (leaves g k x)) (leaves g k y)
 
--- r stands for x times the powers by, plus y, wherever D^n is the powers short
-pub record Folded (by : Powers) (n : ℕ) (short : Powers) (x y r : ℕ) : Type 0 where
-  pub same : {g k : ℕ} → Generator g k → SameAs g k n (exponents short) → leaves g k r ≡ bit_xor (powers g k (exponents by) (leaves g k x)) (leaves g k y)
+-- r stands for x, wherever the power p holds; and it is as much shorter as the sum is
+pub record Reduced (p : Power) (x r : ℕ) : Type 0 where
+  pub same : {g k : ℕ} → Generator g k → Holds g k p → leaves g k r ≡ leaves g k x
+  pub short : (m u : ℕ) → x < 2 ^ (m + p.n) → p.n ≤ u → m + slice_index p.sum 0 ≤ u → m + slice_index p.sum 1 ≤ u → m + slice_index p.sum 2 ≤ u → r < 2 ^ u
 
--- r stands for x, wherever D^n is the powers by; and it is as much shorter as they are
-pub record Reduced (n : ℕ) (by : Powers) (x r : ℕ) : Type 0 where
-  pub same : {g k : ℕ} → Generator g k → SameAs g k n (exponents by) → leaves g k r ≡ leaves g k x
-  pub short : (m u : ℕ) → x < 2 ^ (m + n) → n ≤ u → m + by.0 ≤ u → m + by.1 ≤ u → m + by.2 ≤ u → r < 2 ^ u
-
--- r stands for the first m octets of s, wherever D^64 is the powers by, and D^n the powers short
-pub record Stands (by : Powers) (n : ℕ) (short : Powers) (s : List ℕ) (m r : ℕ) : Type 0 where
-  pub same : {g k : ℕ} → Generator g k → SameAs g k 64 (exponents by) → SameAs g k n (exponents short) → leaves g k r ≡ passed g k s m
+-- r stands for the first m octets of s, wherever D^64 is the sum by, and the power short holds
+pub record Stands (by : List ℕ) (short : Power) (s : List ℕ) (m r : ℕ) : Type 0 where
+  pub same : {g k : ℕ} → Generator g k → SameAs g k 64 (exponents by) → Holds g k short → leaves g k r ≡ passed g k s m
 
 -- words of 64 digits brought down to the remainder r
 abbrev pub words : ℕ → ℕ → ℕ → List ℕ → ℕ
@@ -70,5 +67,5 @@ words g k r [] = r
 words g k r (w ∷ ws) = words g k (feed g k 64 r w) ws
 
 -- what the eight words of a block leave, by the payload's generator
-abbrev pub value : Block → ℕ
-value a = words 0b11000110011 10 0 (a.w0 ∷ a.w1 ∷ a.w2 ∷ a.w3 ∷ a.w4 ∷ a.w5 ∷ a.w6 ∷ a.w7 ∷ [])
+abbrev pub value : List ℕ → ℕ
+value a = words 0b11000110011 10 0 a

@@ -1,3 +1,4 @@
 pub mod Check
+pub mod Exponents
 pub mod Inside
 pub mod Rows

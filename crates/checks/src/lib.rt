@@ -4,26 +4,29 @@
 
 mod blocks;
 mod ends;
+mod powers;
 mod words;
 
 ghost use Rattle.std.specs.Prelude.{◌≡◌};
 ghost use Rattle.checks.specs.Check.{header_check, payload_check};
 
-use words::Powers;
+use powers::header;
 
-// The check of a control part, six bits. D^64 is D^2 modulo its generator, and D^31 is 1.
+// The check of a control part, six bits.
+#[tactic(auto, using(crate::proofs::Rows::check_passed, crate::proofs::ShortSums::header_sums))]
 pub fn header_check(s: &[u8]) -> u8
     ensures { result ≡ header_check s.now }
 {
-    let n = s.len();
-    ends::header_end(words::in_one_word(s, n, Powers(2, 2, 2), 31, Powers(0, 0, 0)))
+    ends::header_end(words::in_one_word(s, s.len(), header::D64, header::D31))
 }
 
+// Kept: a function for each check, since only a payload has blocks: D^512 is short modulo its generator alone.
 // The check of a payload part, ten bits. Of no octets it is 0, at no cost: frames without payload are many.
+#[tactic(auto, using(crate::proofs::Rows::check_passed))]
 pub fn payload_check(s: &[u8]) -> u16
     ensures { result ≡ payload_check s.now }
 {
-    if s.len() == 0 {
+    if s.is_empty() {
         return 0;
     }
     ends::payload_end(blocks::to_word(s))

@@ -1,10 +1,10 @@
 -- The starred bench example I of document 01. Assumes nothing.
 use Rattle.std.proofs.Common.{◌≡◌, negsuc, refl}
-use Rattle.clock.specs.declared.DueTime.TheVariants.{At}
 use Rattle.clock.specs.Clock.{past, due_at, nearest, late}
+use Rattle.std.specs.Prelude.{Ok}
 
 -- start 4,294,967,290, stamp 10: due 4
-I_due : due_at 4294967290 10 ≡ At 4
+I_due : due_at 4294967290 10 ≡ Ok 4
 unfolding due_at
 I_due = refl
 

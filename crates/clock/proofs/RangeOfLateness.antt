@@ -1,5 +1,5 @@
 -- Lateness is from -2,147,483,648 to 2,147,483,647, and says how far the arrival is from when the frame was due. Assumes nothing.
-use Rattle.std.proofs.Common.{◌≡◌, ℕ, suc, ◌+◌, ◌-◌, ◌%◌, ◌^◌, ◌<◌, Bool, true, false, ltb, leb, ℤ, pos, negsuc, ◌≤ℤ◌, refl, arith, le→leb, ltb-false, ltb-true}
+use Rattle.std.proofs.Common.{◌≡◌, ℕ, suc, ◌+◌, ◌-◌, ◌%◌, ◌^◌, ◌<◌, Bool, true, false, ltb, ℤ, pos, negsuc, ◌≤ℤ◌, refl, arith, le→leb, ltb-false, ltb-true}
 use lib.Signed.{le_z_yes}
 use Rattle.clock.specs.Clock.{past, nearest, late}
 use Rattle.clock.proofs.Early.{nearest_late, nearest_early}

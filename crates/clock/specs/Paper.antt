@@ -1,10 +1,8 @@
 -- Document 01's number and value for each case of an answer: "a refusal returns its number and zeros elsewhere". The promises are
 -- about these. Assumes nothing.
-use Rattle.std.specs.Prelude.{ℕ}
-use Rattle.clock.specs.declared.Moment.{Moment}
-use Rattle.clock.specs.declared.Moment.TheVariants.{Stamp, Refused as NoStamp}
-use Rattle.clock.specs.declared.DueTime.{DueTime}
-use Rattle.clock.specs.declared.DueTime.TheVariants.{At, Refused as NotDue}
+use Rattle.std.specs.Prelude.{ℕ, Ok, Err}
+use Rattle.units.specs.Refusals.{number_of, found_of, worked_of}
+use Rattle.clock.specs.Answers.{Moment, DueTime}
 
 -- of a moment's stamp: the refusal's number and both checks, or zeros; 1 where accepted; and the stamp
 pub record MomentPaper : Type 0 where
@@ -16,8 +14,8 @@ pub record MomentPaper : Type 0 where
 
 -- "Stamp of a moment: 23"
 unfoldable pub moment_paper : Moment → MomentPaper
-moment_paper (Stamp n) = record { number = 0; found = 0; worked = 0; accepted = 1; stamp = n }
-moment_paper (NoStamp r) = record { number = r.number; found = r.found; worked = r.worked_out; accepted = 0; stamp = 0 }
+moment_paper (Ok n) = record { number = 0; found = 0; worked = 0; accepted = 1; stamp = n }
+moment_paper (Err r) = record { number = number_of r; found = found_of r; worked = worked_of r; accepted = 0; stamp = 0 }
 
 -- of when a frame is due: the refusal's number and both checks, or zeros; 1 where accepted; and the tick
 pub record DuePaper : Type 0 where
@@ -29,5 +27,5 @@ pub record DuePaper : Type 0 where
 
 -- "Due time: 5"
 unfoldable pub due_paper : DueTime → DuePaper
-due_paper (At t) = record { number = 0; found = 0; worked = 0; accepted = 1; tick = t }
-due_paper (NotDue r) = record { number = r.number; found = r.found; worked = r.worked_out; accepted = 0; tick = 0 }
+due_paper (Ok t) = record { number = 0; found = 0; worked = 0; accepted = 1; tick = t }
+due_paper (Err r) = record { number = number_of r; found = found_of r; worked = worked_of r; accepted = 0; tick = 0 }

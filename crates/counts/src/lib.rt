@@ -9,32 +9,22 @@ use units::limits::{MOST_IN_SEQUENCE, MOST_PAYLOAD};
 use units::{Octets, Packets};
 
 // Of a data PDU.
+#[tactic(auto, unfolding(frame::specs::Counts::data_wrong))]
 pub fn data_wrong(number: Packets, elapsed: Octets) -> bool
     ensures { result ≡ data_wrong number.0 elapsed.0 }
 {
-    let n = number.0 as u64;
-    if MOST_IN_SEQUENCE <= n {
-        return true;
-    }
-    MOST_PAYLOAD * n < elapsed.0
+    let n = u64::from(number.0);
+    MOST_IN_SEQUENCE <= n || MOST_PAYLOAD * n < elapsed.0
 }
 
 // Of a closing PDU.
+#[tactic(auto, unfolding(frame::specs::Counts::closing_wrong))]
 pub fn closing_wrong(c: ClosingPdu) -> bool
     ensures { result ≡ closing_wrong c }
 {
-    let n = c.number.0 as u64;
+    let n = u64::from(c.number.0);
     let e = c.elapsed.0;
-    let p = c.packets.0 as u64;
+    let p = u64::from(c.packets.0);
     let t = c.octets.0;
-    if MOST_PAYLOAD * n < e {
-        return true;
-    }
-    if p < n {
-        return true;
-    }
-    if t < e {
-        return true;
-    }
-    MOST_PAYLOAD * (p - n) < t - e
+    MOST_PAYLOAD * n < e || p < n || t < e || MOST_PAYLOAD * (p - n) < t - e
 }

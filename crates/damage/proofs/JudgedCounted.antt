@@ -1,7 +1,7 @@
 -- How a record that is judged, and its gaps counted, in one pass meets its promise. Assumes nothing.
 use Prim.Native.Nat.{ℕ, suc, ◌+◌, ◌≤◌}
 use mathlib.Core.Path.{◌≡◌, refl, sym, ap, ◌∙◌}
-use mathlib.Core.Bool.{Bool, true, false, true≢false}
+use mathlib.Core.Bool.{Bool, true, false}
 use mathlib.Core.List.{List}
 use native.Mathlib.Numerals.{add-one}
 use native.Mathlib.Omega.{arith}
@@ -11,6 +11,7 @@ use Rattle.reception.specs.Sendings.{Held, held_in}
 use Rattle.reception.specs.Walk.{is_heard}
 use Rattle.reception.specs.Neighbours.{end_to, octets_to}
 use Rattle.reception.proofs.NeighboursDecide.{end_heard, end_unheard}
+use Rattle.std.specs.Prelude.{Option, Some, None}
 use Rattle.damage.specs.declared.judging.Judged.{Judged}
 use Rattle.damage.specs.Judging.{gap_between, gaps_to, Ended, Judges}
 
@@ -55,15 +56,28 @@ module _ (marks elapsed sizes : List ℕ) (k end before gaps : ℕ) (t : Ended m
         gaps_few = omega (arith, t.gaps_few);
       })
 
--- of a damaged record nothing else is said
-pub judged_off : {b : Bool} (marks elapsed sizes : List ℕ) (r : Judged) → r.damaged ≡ true → true ≡ b → Judges b marks elapsed sizes r
-judged_off marks elapsed sizes r d e = record { says = d ∙ e; counts = λ f. absurd (true≢false (sym d ∙ f)) }
+-- of a damaged record nothing is said
+pub judged_off : {b : Bool} (marks elapsed sizes : List ℕ) → true ≡ b → Judges b marks elapsed sizes None
+judged_off marks elapsed sizes e = record { says = e; counts = record {} }
 
 -- all places were passed
 pub ended_all : (marks elapsed sizes : List ℕ) (k end before gaps : ℕ) → length marks ≤ k → k ≤ length marks → Ended marks elapsed sizes k end before gaps
     → Ended marks elapsed sizes (length marks) end before gaps
 ended_all marks elapsed sizes k end before gaps le ge t = let e : k ≡ length marks = omega arith in rw e at t
 
+-- all places of a record that is not damaged
+pub judged_fit : {b : Bool} (marks elapsed sizes : List ℕ) (j : Judged) → false ≡ b → Ended marks elapsed sizes (length marks) j.end.0 j.before.0 j.gaps
+    → Judges b marks elapsed sizes (Some j)
+judged_fit marks elapsed sizes j e t = record { says = e; counts = t }
+
 -- a promise about a test that is another one's name
-pub same_judged : {b d : Bool} {marks elapsed sizes : List ℕ} {r : Judged} → b ≡ d → Judges b marks elapsed sizes r → Judges d marks elapsed sizes r
+pub same_judged : {b d : Bool} {marks elapsed sizes : List ℕ} {r : Option Judged} → b ≡ d → Judges b marks elapsed sizes r → Judges d marks elapsed sizes r
 same_judged e p = rw e at p
+
+-- what a caller knows by the answer
+pub judged_none : {b : Bool} {marks elapsed sizes : List ℕ} {r : Option Judged} → r ≡ None → Judges b marks elapsed sizes r → b ≡ true
+judged_none e p = sym (rw e at p).says
+
+pub judged_some : {b : Bool} {marks elapsed sizes : List ℕ} {r : Option Judged} (j : Judged) → r ≡ Some j → Judges b marks elapsed sizes r
+    → (b ≡ false) × Ended marks elapsed sizes (length marks) j.end.0 j.before.0 j.gaps
+judged_some j e p = let q = rw e at p in (sym q.says, q.counts)

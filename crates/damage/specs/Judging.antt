@@ -1,6 +1,6 @@
 -- What judging a record in one pass over its places promises: whether it is damaged, and where its packets end and how many gaps lie before
 -- them. Assumes nothing.
-use Rattle.std.specs.Prelude.{ℕ, zero, suc, ◌+◌, ◌≤◌, ◌≡◌, Bool, false, cond, List, eqb, length}
+use Rattle.std.specs.Prelude.{ℕ, zero, suc, ◌+◌, ◌≤◌, ◌≡◌, Bool, cond, List, eqb, length, Option, is_none, IfSome}
 use Rattle.fields.specs.Choice.{◌when◌otherwise◌}
 use Rattle.reception.specs.declared.Head.{Head}
 use Rattle.reception.specs.Sendings.{Held, held_in}
@@ -24,7 +24,7 @@ pub record Ended (marks elapsed sizes : List ℕ) (k end before gaps : ℕ) : Ty
   pub gaps_are : (h : Head) → gaps ≡ gaps_to (held_in h marks elapsed sizes) k
   pub gaps_few : gaps ≤ k
 
--- the promise: damaged is said exactly if b; where it is not, the packets heard end so
-pub record Judges (b : Bool) (marks elapsed sizes : List ℕ) (r : Judged) : Type 0 where
-  pub says : r.damaged ≡ b
-  pub counts : r.damaged ≡ false → Ended marks elapsed sizes (length marks) r.end.0 r.before.0 r.gaps
+-- the promise: nothing is said exactly if b; what is said is where the packets heard end
+pub record Judges (b : Bool) (marks elapsed sizes : List ℕ) (r : Option Judged) : Type 0 where
+  pub says : is_none r ≡ b
+  pub counts : IfSome r (λ (j : Judged). Ended marks elapsed sizes (length marks) j.end.0 j.before.0 j.gaps)

@@ -11,12 +11,12 @@ use Rattle.units.specs.Limits.{last_stamp, most_payload, most_in_sequence}
 use Rattle.fields.proofs.ReadAgain.{be_lt}
 use Rattle.frame.specs.declared.ClosingPdu.{ClosingPdu}
 use Rattle.frame.specs.declared.DataPdu.{DataPdu}
-use Rattle.frame.specs.declared.Written.TheVariants.{Done}
 use Rattle.frame.specs.Counts.{data_wrong, closing_wrong, too_wide, given_wrong, any_above, sum_of, list_wrong}
 use Rattle.frame.specs.Layout.{payload_of, upper_or_lower, length_at, filled, sum_lengths, lengths_of}
 use Rattle.frame.specs.Writing.{write_data, write_closing, write_lengths}
 use Rattle.frame.proofs.Payloads.{payload_length_lem}
 use Rattle.frame.proofs.Said.{DataSaid, ClosingSaid}
+use Rattle.std.specs.Prelude.{Ok}
 
 -- the lengths of a Type 3 frame: as many, each of 12 bits, and their sum
 pub lengths_long : (s : List ℕ) (i n : ℕ) → length (lengths_of s i n) ≡ n
@@ -47,7 +47,7 @@ lengths_sum s i (suc n) =
 
 -- a data PDU
 pub data_writable : (s : List ℕ) (d : DataPdu) (room : ℕ) → DataSaid s d → length s ≡ 11 + d.length.0 → length s ≤ room
-    → write_data d.stamp d.number.0 d.elapsed.0 (length (payload_of s)) room ≡ Done (length s)
+    → write_data d.stamp d.number.0 d.elapsed.0 (length (payload_of s)) room ≡ Ok (length s)
 unfolding write_data data_wrong
 data_writable s d room h z fits =
     let l : length (payload_of s) ≡ d.length.0 = payload_length_lem s ∙ ap (λ (x : DataPdu). x.length.0) (sym h.fields) in
@@ -82,12 +82,12 @@ module _ (s : List ℕ) (c : ClosingPdu) (o : (i : ℕ) → get_or s i 0 < 256) 
   unfolding given_wrong
   counts_writable = simp (narrow, right)
 
-  pub closing_writable : (room : ℕ) → 18 ≤ room → write_closing c room ≡ Done 18
+  pub closing_writable : (room : ℕ) → 18 ≤ room → write_closing c room ≡ Ok 18
   unfolding write_closing
   closing_writable room fits = simp (le-ltb last_stamp c.stamp h.stamp, counts_writable, le-ltb room 18 fits)
 
   pub lengths_writable : (ls : List ℕ) (room : ℕ) → list_wrong ls c.number.0 c.elapsed.0 ≡ false → 19 + filled (length ls) ≤ room
-      → write_lengths c ls room ≡ Done (19 + filled (length ls))
+      → write_lengths c ls room ≡ Ok (19 + filled (length ls))
   unfolding write_lengths
   lengths_writable ls room list fits =
       simp (le-ltb last_stamp c.stamp h.stamp, counts_writable, list, le-ltb room (19 + filled (length ls)) fits)

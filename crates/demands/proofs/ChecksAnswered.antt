@@ -6,14 +6,13 @@ use mathlib.Core.List.{List, [], ◌∷◌, ◌++◌, map}
 use lib.Dec.{ltb}
 use lib.ListN.{length, drop}
 use borrow.Author.Tests.{ltb-false}
-use Rattle.units.specs.declared.Refusal.{Refusal}
+use Rattle.units.specs.declared.refusals.Refusal.{Refusal}
 use Rattle.units.specs.Limits.{last_stamp}
 use Rattle.fields.specs.Runs.{front}
 use Rattle.fields.proofs.Choosing.{whichever, tested}
 use Rattle.frame.specs.declared.Read.{Read}
 use Rattle.frame.specs.declared.Read.TheVariants.{Closing, Data, ClosingWithLengths, Refused as NotRead}
-use Rattle.frame.specs.declared.Listed.{Listed}
-use Rattle.frame.specs.declared.Listed.TheVariants.{Refused as NotListed}
+use Rattle.frame.specs.Answers.{Listed}
 use Rattle.frame.specs.Listing.{list_lengths}
 use Rattle.frame.specs.Paper.{listed_paper}
 use Rattle.frame.specs.Reading.{read_frame}
@@ -21,9 +20,7 @@ use Rattle.frame.specs.WrongChecks.{TellsOf}
 use Rattle.frame.proofs.ChecksTold.{zeros_told, refusal_told}
 use Rattle.frame.proofs.OnePaper.{listed_known}
 use Rattle.reader.specs.Lists.{Lists}
-use Rattle.reception.specs.declared.Taken.{Taken}
-use Rattle.reception.specs.declared.Taken.TheVariants.{Done, Refused}
-use Rattle.reception.specs.declared.Taking.{Taking}
+use Rattle.reception.specs.Answers.{Taken, Taking}
 use Rattle.reception.specs.Hearing.{Kept, Outcome, unmatched, empty_kept, hear_frame, taken_paper, Takes}
 use Rattle.reception.specs.Several.{answer_of, answers_to, answers_after, hear_sequence}
 use Rattle.reception.proofs.HeardTold.{handed_on, heard_checks}
@@ -36,6 +33,7 @@ use Rattle.demands.specs.Demand1.{EachTold}
 use Rattle.demands.specs.Demand1.EachTold.{none, told}
 use Rattle.demands.proofs.Refusals.{accepted_of, no_zero}
 use Rattle.demands.proofs.RecordRefusals.{hear_leaves}
+use Rattle.std.specs.Prelude.{Ok, Err}
 
 -- lengths
 listing_tells : (s : List ℕ) (x : Read) → read_frame s ≡ x → (room : ℕ) → TellsOf s (listed_paper (list_lengths x room))
@@ -49,7 +47,7 @@ listing_tells s (ClosingWithLengths c) e room =
 pub lists_tell : (s old : List ℕ) (r : Listed) (new : List ℕ) → Lists s old r new → TellsOf s (listed_paper r)
 lists_tell s old r new w = subst (TellsOf s) (sym w.says) (listing_tells s (read_frame s) refl (length old))
 
-pub lists_hand_on : (s old : List ℕ) (r : Listed) (new : List ℕ) → Lists s old r new → (q : Refusal) → read_frame s ≡ NotRead q → r ≡ NotListed q
+pub lists_hand_on : (s old : List ℕ) (r : Listed) (new : List ℕ) → Lists s old r new → (q : Refusal) → read_frame s ≡ NotRead q → r ≡ Err q
 unfolding list_lengths
 lists_hand_on s old r new w q e = listed_known r _ w.says ∙ rw e refl
 
@@ -59,7 +57,7 @@ pub takes_tell : (k : Kept) (bearer period : ℕ) (f : List ℕ) (r : Taking) (m
 takes_tell k bearer period f r m e s w = subst (TellsOf f) (sym w.says) (heard_checks k bearer period f)
 
 pub takes_hand_on : (k : Kept) (bearer period : ℕ) (f : List ℕ) (r : Taking) (m e s : List ℕ) → Takes (hear_frame k bearer period f) r m e s
-    → unmatched k ≡ false → (q : Refusal) → read_frame f ≡ NotRead q → r.answer ≡ Refused q
+    → unmatched k ≡ false → (q : Refusal) → read_frame f ≡ NotRead q → r.answer ≡ Err q
 takes_hand_on k bearer period f r m e s w u q p = taken_known r.answer _ w.says ∙ ap (λ (o : Outcome). o.answer) (handed_on k bearer period f q u p)
 
 -- many frames heard, into a record that is sound and stays so
@@ -89,8 +87,8 @@ sequence_sound bearer period stamp old frames room =
 
 in_front : (a : Taken) (ts : List Taken) (old : List ℕ) → (taken_paper a).accepted ≡ 1 → answers_after a ts old ≡ front old (map answer_of ts)
 unfolding taken_paper
-in_front Done ts old e = refl
-in_front (Refused r) ts old e = no_zero (sym e)
+in_front (Ok u) ts old e = refl
+in_front (Err r) ts old e = no_zero (sym e)
 
 -- the list that an accepted call leaves
 pub each_told_in : (bearer period : ℕ) (k : Kept) → Sound k → (frames : List (List ℕ)) (a : Taken) (answers new : List ℕ) → (taken_paper a).accepted ≡ 1

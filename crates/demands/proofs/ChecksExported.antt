@@ -7,15 +7,14 @@ use mathlib.Core.List.{List}
 use lib.Dec.{eqb, ltb}
 use lib.ListN.{length}
 use Rattle.units.specs.Limits.{last_stamp}
-use Rattle.units.specs.Refusals.{capacities_differ}
+use Rattle.units.specs.Refusals.{number_of, found_of, worked_of, capacities_differ}
 use Rattle.units.specs.OneNumber.{refusal_in_one, checks_value}
 use Rattle.units.proofs.TakenApart.{number_back, value_back, found_back, worked_back}
 use Rattle.fields.specs.Choice.{◌when◌otherwise◌}
 use Rattle.fields.proofs.Choosing.{whichever}
 use Rattle.frame.specs.declared.Read.{Read}
 use Rattle.frame.specs.declared.Read.TheVariants.{Closing, Data, ClosingWithLengths, Refused as NotRead}
-use Rattle.frame.specs.declared.Listed.{Listed}
-use Rattle.frame.specs.declared.Listed.TheVariants.{Refused as NotListed}
+use Rattle.frame.specs.Answers.{Listed}
 use Rattle.frame.specs.Layout.{type_of, stamp_of, control, least}
 use Rattle.frame.specs.Listing.{list_lengths}
 use Rattle.frame.specs.Paper.{read_paper, listed_paper}
@@ -29,6 +28,7 @@ use Rattle.numbers.specs.Answers.{in_one}
 use Rattle.demands.specs.ExportedRefusals.{RefusingInOne}
 use Rattle.demands.specs.ExportedChecks.{TellsInOne, InOctets, ToldExported}
 use Rattle.demands.proofs.ChecksAnswered.{sequence_sound, each_told_in}
+use Rattle.std.specs.Prelude.{Err}
 
 -- taken taken-apart again
 taken_apart : (s : List ℕ) (n found worked : ℕ) → n < 256 → found < 65536 → ChecksTold s n found worked → TellsInOne s (refusal_in_one n found worked)
@@ -81,8 +81,8 @@ module _ (s : List ℕ) (o : InOctets s) where
   listing_told : (x : Read) → read_frame s ≡ x → (room : ℕ) → ListTells (list_lengths x room)
   unfolding list_lengths listed_paper read_paper in_one
   listing_told (NotRead r) e room =
-      let t : TellsInOne s (refusal_in_one r.number r.found r.worked_out) = rw e at reading_told in
-      let q : refusal_in_one r.number r.found r.worked_out ≡ in_one (listed_paper (NotListed r)) = omega arith in
+      let t : TellsInOne s (refusal_in_one (number_of r) (found_of r) (worked_of r)) = rw e at reading_told in
+      let q : refusal_in_one (number_of r) (found_of r) (worked_of r) ≡ in_one (listed_paper (Err r)) = omega arith in
       λ _. subst (TellsInOne s) q t
   listing_told (Closing c) e room = λ _. zeros_told s 0 refl
   listing_told (Data d) e room = λ _. zeros_told s 0 refl

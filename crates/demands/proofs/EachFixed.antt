@@ -5,22 +5,17 @@ use mathlib.Core.List.{List}
 use lib.ListN.{length}
 use Rattle.clock.proofs.OnePaper.{moment_known, due_known}
 use Rattle.clock.specs.Clock.{stamp_of, due_at}
-use Rattle.frame.specs.declared.Listed.{Listed}
-use Rattle.frame.specs.declared.Written.{Written}
+use Rattle.frame.specs.Answers.{Listed, Written}
 use Rattle.frame.specs.Listing.{list_lengths, listed}
 use Rattle.frame.specs.Reading.{read_frame}
 use Rattle.frame.specs.Writing.{after}
 use Rattle.frame.proofs.OnePaper.{read_known, written_known, listed_known}
 use Rattle.reader.specs.Lists.{Lists}
 use Rattle.writer.specs.Promise.{Wrote}
-use Rattle.sender.specs.declared.Dispatch.{Dispatch}
-use Rattle.sender.specs.declared.Turning.{Turning}
+use Rattle.sender.specs.Answers.{Dispatch, Turning}
 use Rattle.sender.specs.Calls.{Turns, Sends}
 use Rattle.sender.proofs.OnePaper.{turned_known}
-use Rattle.reception.specs.declared.Joining.{Joining}
-use Rattle.reception.specs.declared.Reported.{Reported}
-use Rattle.reception.specs.declared.Taken.{Taken}
-use Rattle.reception.specs.declared.Taking.{Taking}
+use Rattle.reception.specs.Answers.{Joining, Reported, Taken, Taking}
 use Rattle.reception.specs.Hearing.{Kept, Outcome, Takes}
 use Rattle.reception.specs.Joining.{JoinOutcome, Joins}
 use Rattle.reception.specs.Reporting.{Reports}

@@ -5,18 +5,13 @@ use mathlib.Core.Path.{◌≡◌, refl, sym, ap, subst, ◌∙◌}
 use mathlib.Core.Bool.{false}
 use mathlib.Core.Logic.{◌↔◌}
 use mathlib.Core.List.{List, map}
-use Rattle.units.specs.Refusals.{refusing, contradiction, tells_checks}
+use Rattle.units.specs.Refusals.{contradiction, tells_checks}
+use Rattle.units.proofs.ToldByNumber.{same_refusal}
 use Rattle.fields.specs.Runs.{front}
 use Rattle.frame.specs.Paper.{CountPaper}
 use Rattle.frame.specs.WrongChecks.{TellsOf}
-use Rattle.frame.proofs.ChecksTold.{no_checks}
-use Rattle.reception.specs.declared.Joined.{Joined}
-use Rattle.reception.specs.declared.Joined.TheVariants.{Done as JoinDone, Contradicted as NamesOne, Refused as NotJoined}
+use Rattle.reception.specs.Answers.{Joined, Reported, Taken}
 use Rattle.reception.specs.declared.Report.{Report}
-use Rattle.reception.specs.declared.Reported.{Reported}
-use Rattle.reception.specs.declared.Reported.TheVariants.{Done}
-use Rattle.reception.specs.declared.Taken.{Taken}
-use Rattle.reception.specs.declared.Taken.TheVariants.{Done as TakenDone, Refused as NotTaken}
 use Rattle.reception.specs.Sendings.{Explains}
 use Rattle.reception.specs.Hearing.{Kept, Outcome, held_by, refuses, other_key, hear_frame, taken_paper}
 use Rattle.reception.specs.Joining.{HoldsBoth, JoinPaper, JoinOutcome, joins, join_records, joined_paper}
@@ -35,22 +30,25 @@ use Rattle.reception.proofs.ReportSaid.{report_done, closed_said, said_gaps}
 use Rattle.reception.proofs.WhatHearingAdds.{Sound, owned_key, packet_heard, closing_heard}
 use Rattle.reception.proofs.WhatJoiningAdds.{holds_either}
 use Rattle.demands.specs.Demand3.{Proper, OneSequence, HeardAs, WasTaken, Contradicted, OwnKey, JoinedAs, Accepted, empty_like, Demand3}
+use Rattle.std.specs.Prelude.{Ok, Err}
+use Rattle.reception.specs.declared.NotJoined.TheVariants.{Contradicts, Refused}
+use Rattle.units.specs.declared.refusals.Refusal.TheVariants.{Contradiction}
 
 -- a proper record is one to which neither 14 nor 13 applies
 sound : (k : Kept) → Proper k → Sound k
 sound k p = record { matched = matched_lists k.marks k.elapsed k.sizes p.lists; undamaged = undamaged_passed k.head.stamp (held_by k) p.undamaged }
 
 -- an accepted answer is the one that says so
-taken_done : (a : Taken) → (taken_paper a).accepted ≡ 1 → a ≡ TakenDone
+taken_done : (a : Taken) → (taken_paper a).accepted ≡ 1 → a ≡ Ok tt
 unfolding taken_paper
-taken_done TakenDone e = refl
-taken_done (NotTaken r) e = absurd (omega (arith, e))
+taken_done (Ok u) e = refl
+taken_done (Err r) e = absurd (omega (arith, e))
 
-join_done : (a : Joined) → (joined_paper a).accepted ≡ 1 → a ≡ JoinDone
+join_done : (a : Joined) → (joined_paper a).accepted ≡ 1 → a ≡ Ok tt
 unfolding joined_paper
-join_done JoinDone e = refl
-join_done (NamesOne n) e = absurd (omega (arith, e))
-join_done (NotJoined r) e = absurd (omega (arith, e))
+join_done (Ok u) e = refl
+join_done (Err (Contradicts n)) e = absurd (omega (arith, e))
+join_done (Err (Refused r)) e = absurd (omega (arith, e))
 
 abbrev accepted_of : CountPaper → ℕ
 accepted_of p = p.accepted
@@ -63,23 +61,23 @@ join_accepted p = p.accepted
 
 -- what was heard
 module _ (k : Kept) (bearer period : ℕ) (f : List ℕ) (o : Outcome) (h : HeardAs k bearer period f o) (t : WasTaken o) where
-  heard_done : (hear_frame k bearer period f).answer ≡ TakenDone
+  heard_done : (hear_frame k bearer period f).answer ≡ Ok tt
   heard_done = taken_done _ (sym (ap accepted_of h.says) ∙ t)
 
 -- an answer with number 11 is the refusal, which tells of no check
-taken_contradicts : (f : List ℕ) (a : Taken) → TellsOf f (taken_paper a) → (taken_paper a).number ≡ contradiction → a ≡ NotTaken (refusing contradiction)
+taken_contradicts : (f : List ℕ) (a : Taken) → TellsOf f (taken_paper a) → (taken_paper a).number ≡ contradiction → a ≡ Err Contradiction
 unfolding taken_paper
-taken_contradicts f TakenDone t e = absurd (omega (arith, e))
-taken_contradicts f (NotTaken r) t e =
+taken_contradicts f (Ok u) t e = absurd (omega (arith, e))
+taken_contradicts f (Err r) t e =
     let z = t.neither (ap tells_checks e) in
-    ap NotTaken (no_checks r.number r.found r.worked_out z) ∙ ap (λ (n : ℕ). NotTaken (refusing n)) e
+    ap Err (same_refusal r Contradiction e z.0 z.1)
 
 -- what was refused with 11
 module _ (k : Kept) (bearer period : ℕ) (f : List ℕ) (o : Outcome) (h : HeardAs k bearer period f o) where
-  heard_contradicts : Contradicted o → (hear_frame k bearer period f).answer ≡ NotTaken (refusing contradiction)
+  heard_contradicts : Contradicted o → (hear_frame k bearer period f).answer ≡ Err Contradiction
   heard_contradicts t = taken_contradicts f _ (heard_checks k bearer period f) (sym (ap number_of h.says) ∙ t)
 
-  contradicts_heard : hear_frame k bearer period f ≡ refuses k contradiction → Contradicted o
+  contradicts_heard : hear_frame k bearer period f ≡ refuses k Contradiction → Contradicted o
   unfolding taken_paper
   contradicts_heard e = ap number_of (h.says ∙ ap (λ (x : Outcome). taken_paper x.answer) e)
 
@@ -88,10 +86,10 @@ own k bearer period stamp q = owned_key k.head bearer period stamp q.bearers q.p
 
 -- what was joined
 module _ (a b : Kept) (o : JoinOutcome) (h : JoinedAs a b o) where
-  joined_done : Accepted o → (join_records a b).answer ≡ JoinDone
+  joined_done : Accepted o → (join_records a b).answer ≡ Ok tt
   joined_done t = join_done _ (sym (ap join_accepted h.says) ∙ t)
 
-  done_joined : (join_records a b).answer ≡ JoinDone → Accepted o
+  done_joined : (join_records a b).answer ≡ Ok tt → Accepted o
   unfolding joined_paper
   done_joined e = ap join_accepted (h.says ∙ ap joined_paper e)
 
@@ -130,11 +128,11 @@ three : (a b c : Kept) (ab abc bc a-bc : JoinOutcome) → JoinedAs a b ab → Jo
 three a b c ab abc bc a-bc h g i j t u =
     let l : LeftFirst a b c = record {
       first = joined_done a b ab h t;
-      then = subst (λ (x : Kept). (join_records x c).answer ≡ JoinDone) h.leaves (joined_done ab.kept c abc g u);
+      then = subst (λ (x : Kept). (join_records x c).answer ≡ Ok tt) h.leaves (joined_done ab.kept c abc g u);
     } in
     let r = (grouped_either a b c).0 l in (
       done_joined b c bc i r.first,
-      done_joined a bc.kept a-bc j (subst (λ (x : Kept). (join_records a x).answer ≡ JoinDone) (sym i.leaves) r.then),
+      done_joined a bc.kept a-bc j (subst (λ (x : Kept). (join_records a x).answer ≡ Ok tt) (sym i.leaves) r.then),
       g.leaves
           ∙ ap (λ (x : Kept). (join_records x c).kept) h.leaves
           ∙ ap (λ (x : JoinOutcome). x.kept) (grouped a b c l)
@@ -143,13 +141,13 @@ three a b c ab abc bc a-bc h g i j t u =
     )
 
 -- the report
-gaps_there : (k : Kept) (firsts counts octets : List ℕ) (t : Report) (f c o : List ℕ) → Reports k firsts counts octets (Done t) f c o
+gaps_there : (k : Kept) (firsts counts octets : List ℕ) (t : Report) (f c o : List ℕ) → Reports k firsts counts octets (Ok t) f c o
     → GapsRight (held_by k) × (f ≡ front firsts (map (λ (g : Gap). g.first) (gaps_of (held_by k))))
     × (c ≡ front counts (map (λ (g : Gap). g.count) (gaps_of (held_by k)))) × (o ≡ front octets (map (λ (g : Gap). g.octets) (gaps_of (held_by k))))
 unfolding gaps_after
 gaps_there k firsts counts octets t f c o w =
     let room = room_of firsts counts octets in
-    let e : report_record k room ≡ Done t = sym (reported_known (Done t) (report_record k room) w.says) in (
+    let e : report_record k room ≡ Ok t = sym (reported_known (Ok t) (report_record k room) w.says) in (
       said_gaps k room t e,
       w.leaves_firsts ∙ ap (λ (x : Reported). gaps_after x (λ (g : Gap). g.first) (gaps_of (held_by k)) firsts) e,
       w.leaves_counts ∙ ap (λ (x : Reported). gaps_after x (λ (g : Gap). g.count) (gaps_of (held_by k)) counts) e,

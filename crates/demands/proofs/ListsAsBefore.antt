@@ -9,25 +9,16 @@ use lib.ListN.{length}
 use Rattle.units.specs.Refusals.{no_room, capacities_differ}
 use Rattle.fields.specs.Choice.{◌when◌otherwise◌}
 use Rattle.fields.specs.Runs.{front}
-use Rattle.frame.specs.declared.Listed.{Listed}
-use Rattle.frame.specs.declared.Listed.TheVariants.{Lengths, Refused as NotListed}
-use Rattle.frame.specs.declared.Written.{Written}
-use Rattle.frame.specs.declared.Written.TheVariants.{Done as WriteDone, Refused as NotWritten}
+use Rattle.frame.specs.Answers.{Listed, Written}
 use Rattle.frame.specs.Listing.{list_lengths, listed}
 use Rattle.frame.specs.Paper.{ReadPaper, read_paper, listed_paper, written_paper}
 use Rattle.frame.specs.Reading.{read_frame}
 use Rattle.frame.specs.Writing.{after}
 use Rattle.sender.specs.declared.Sender.{Sender}
-use Rattle.sender.specs.declared.Turned.{Turned}
-use Rattle.sender.specs.declared.Turned.TheVariants.{Done as TurnDone, Refused as NotTurned}
+use Rattle.sender.specs.Answers.{Turned}
 use Rattle.sender.specs.Calls.{turned_paper}
 use Rattle.reception.specs.declared.Head.{Head}
-use Rattle.reception.specs.declared.Joined.{Joined}
-use Rattle.reception.specs.declared.Joined.TheVariants.{Done as JoinDone, Contradicted, Refused as NotJoined}
-use Rattle.reception.specs.declared.Reported.{Reported}
-use Rattle.reception.specs.declared.Reported.TheVariants.{Done as ReportDone, Refused as NotReported}
-use Rattle.reception.specs.declared.Taken.{Taken}
-use Rattle.reception.specs.declared.Taken.TheVariants.{Done as TakenDone, Refused as NotTaken}
+use Rattle.reception.specs.Answers.{Joined, Reported, Taken}
 use Rattle.reception.specs.Hearing.{Kept, Outcome, taken_paper}
 use Rattle.reception.specs.Joining.{JoinOutcome, joined_paper}
 use Rattle.reception.specs.Reporting.{Gap, gaps_after, report_record, room_of}
@@ -35,13 +26,16 @@ use Rattle.reception.specs.Several.{refusal_number, answer_of}
 use Rattle.reception.proofs.AnswersTold.{no_number, no_answer}
 use Rattle.numbers.specs.Answers.{in_one}
 use Rattle.numbers_frames.specs.Reading.{ReadOut}
-use Rattle.numbers_sender.specs.Senders.{turned_state, sent_state}
-use Rattle.numbers_record.specs.Records.{head_after, Keeps}
-use Rattle.numbers_join.specs.Joins.{join_number, joined_head_after, KeepsJoined}
+use Rattle.numbers_sender.specs.Senders.{state_after}
+use Rattle.numbers_head.specs.Heads.{head_after}
+use Rattle.numbers_record.specs.Records.{Keeps}
+use Rattle.numbers_join.specs.Joins.{join_number, KeepsJoined}
 use Rattle.numbers_report.specs.Reports.{figures_of, report_number, figures_after, gaps_out}
 use Rattle.demands.specs.ExportedRefusals.{Refusing, RefusingInOne, SameRecord, RefusedExported}
 use Rattle.demands.proofs.Refusals.{no_zero}
 use Rattle.demands.proofs.RecordRefusals.{fresh_leaves, hear_leaves, many_leaves, none_answered, join_leaves}
+use Rattle.std.specs.Prelude.{Ok, Err}
+use Rattle.reception.specs.declared.NotJoined.TheVariants.{Contradicts, Refused}
 
 -- an answer and a list that follow one test: as it was on the one side, so only the other is left
 beyond : (t : Bool) (n m r : ℕ) (old x new : List ℕ) → r ≡ (n when t otherwise m) → new ≡ (old when t otherwise x) → (r ≡ m → x ≡ old) → new ≡ old
@@ -51,45 +45,45 @@ beyond false n m r old x new e l h = l ∙ h e
 -- what each kind of answer leaves, where its number is a refusal's
 list_stays : (a : Listed) (s old : List ℕ) → RefusingInOne (in_one (listed_paper a)) → listed a s old ≡ old
 unfolding in_one listed_paper listed
-list_stays (Lengths n) s old h = absurd (omega arith)
-list_stays (NotListed r) s old h = refl
+list_stays (Ok n) s old h = absurd (omega arith)
+list_stays (Err r) s old h = refl
 
 frame_stays : (a : Written) (frame old : List ℕ) → RefusingInOne (in_one (written_paper a)) → after a frame old ≡ old
 unfolding in_one written_paper after
-frame_stays (WriteDone n) frame old h = absurd (omega arith)
-frame_stays (NotWritten r) frame old h = refl
+frame_stays (Ok n) frame old h = absurd (omega arith)
+frame_stays (Err r) frame old h = refl
 
-turn_stays : (a : Turned) (old : List ℕ) (s : Sender) → Refusing (turned_paper a).number → turned_state a old s ≡ old
+turn_stays : (a : Turned) (old : List ℕ) (s : Sender) → Refusing (turned_paper a).number → state_after a old s ≡ old
 unfolding turned_paper
-turn_stays TurnDone old s h = absurd (h refl)
-turn_stays (NotTurned r) old s h = refl
+turn_stays (Ok u) old s h = absurd (h refl)
+turn_stays (Err r) old s h = refl
 
-state_stays : (a : Written) (old : List ℕ) (s : Sender) → RefusingInOne (in_one (written_paper a)) → sent_state a old s ≡ old
+state_stays : (a : Written) (old : List ℕ) (s : Sender) → RefusingInOne (in_one (written_paper a)) → state_after a old s ≡ old
 unfolding in_one written_paper
-state_stays (WriteDone n) old s h = absurd (omega arith)
-state_stays (NotWritten r) old s h = refl
+state_stays (Ok n) old s h = absurd (omega arith)
+state_stays (Err r) old s h = refl
 
-not_taken : (as_number : Taken → ℕ) → as_number TakenDone ≡ 0 → (a : Taken) → Refusing (as_number a) → (taken_paper a).accepted ≡ 0
+not_taken : (as_number : Taken → ℕ) → as_number (Ok tt) ≡ 0 → (a : Taken) → Refusing (as_number a) → (taken_paper a).accepted ≡ 0
 unfolding taken_paper
-not_taken as_number z TakenDone h = absurd (h z)
-not_taken as_number z (NotTaken r) h = refl
+not_taken as_number z (Ok u) h = absurd (h z)
+not_taken as_number z (Err r) h = refl
 
 head_stays : (a : Taken) (old : List ℕ) (h : Head) → (taken_paper a).accepted ≡ 0 → head_after a old h ≡ old
 unfolding taken_paper
-head_stays TakenDone old h e = no_zero e
-head_stays (NotTaken r) old h e = refl
+head_stays (Ok u) old h e = no_zero e
+head_stays (Err r) old h e = refl
 
 not_joined : (a : Joined) → RefusingInOne (join_number a) → (joined_paper a).accepted ≡ 0
 unfolding joined_paper
-not_joined JoinDone h = absurd (omega arith)
-not_joined (Contradicted n) h = refl
-not_joined (NotJoined r) h = refl
+not_joined (Ok u) h = absurd (omega arith)
+not_joined (Err (Contradicts n)) h = refl
+not_joined (Err (Refused r)) h = refl
 
-joined_head_stays : (a : Joined) (old : List ℕ) (h : Head) → (joined_paper a).accepted ≡ 0 → joined_head_after a old h ≡ old
+joined_head_stays : (a : Joined) (old : List ℕ) (h : Head) → (joined_paper a).accepted ≡ 0 → head_after a old h ≡ old
 unfolding joined_paper
-joined_head_stays JoinDone old h e = no_zero e
-joined_head_stays (Contradicted n) old h e = refl
-joined_head_stays (NotJoined r) old h e = refl
+joined_head_stays (Ok u) old h e = no_zero e
+joined_head_stays (Err (Contradicts n)) old h e = refl
+joined_head_stays (Err (Refused r)) old h e = refl
 
 -- a list that is left alone where there is no room for figures, and there must be none
 without_room : (t : Bool) (old x : List ℕ) → Refusing (no_room when t otherwise 0) → (old when t otherwise x) ≡ old
@@ -101,16 +95,16 @@ either_way true old = refl
 either_way false old = refl
 
 figures_stay : (a : Reported) (old : List ℕ) → Refusing (report_number (length old) a) → figures_after a old ≡ old
-figures_stay (NotReported x) old h = refl
-figures_stay (ReportDone r) old h = without_room (ltb (length old) 7) old (front old (figures_of r)) h
+figures_stay (Err x) old h = refl
+figures_stay (Ok r) old h = without_room (ltb (length old) 7) old (front old (figures_of r)) h
 
 gaps_stay : (a : Reported) (number : Gap → ℕ) (gaps : List Gap) (figures old : List ℕ) → Refusing (report_number (length figures) a) → gaps_out figures a number gaps old ≡ old
 unfolding gaps_after
-gaps_stay (NotReported x) number gaps figures old h = either_way (ltb (length figures) 7) old
-gaps_stay (ReportDone r) number gaps figures old h = without_room (ltb (length figures) 7) old (front old (map number gaps)) h
+gaps_stay (Err x) number gaps figures old h = either_way (ltb (length figures) 7) old
+gaps_stay (Ok r) number gaps figures old h = without_room (ltb (length figures) 7) old (front old (map number gaps)) h
 
 -- a record, where what is refused keeps it
-keeps_stay : (as_number : Taken → ℕ) → as_number TakenDone ≡ 0 → (old : List ℕ) (k : Kept) (t : Outcome) (r : ℕ) (new m e s : List ℕ)
+keeps_stay : (as_number : Taken → ℕ) → as_number (Ok tt) ≡ 0 → (old : List ℕ) (k : Kept) (t : Outcome) (r : ℕ) (new m e s : List ℕ)
     → ((taken_paper t.answer).accepted ≡ 0 → t.kept ≡ k) → Keeps as_number old k t r new m e s → Refusing r → SameRecord old k new m e s
 keeps_stay as_number z old k t r new m e s same w h =
     let left : r ≡ as_number t.answer → (taken_paper t.answer).accepted ≡ 0 = λ q. not_taken as_number z t.answer (subst Refusing q h) in (

@@ -8,9 +8,8 @@ use mathlib.Core.List.{List}
 use lib.ListN.{length, get_or, take, drop, length-drop}
 use lib.Seq.{take-length}
 use borrow.Author.Tests.{lt-ltb}
-use Rattle.units.specs.declared.Refusal.{Refusal}
+use Rattle.units.specs.declared.refusals.Refusal.{Refusal}
 use Rattle.units.specs.Limits.{last_stamp, most_payload}
-use Rattle.units.specs.Refusals.{size_wrong}
 use Rattle.fields.specs.Runs.{front}
 use Rattle.fields.proofs.Tests.{or_false}
 use Rattle.checks.specs.Check.{payload_check}
@@ -18,8 +17,7 @@ use Rattle.frame.specs.declared.ClosingPdu.{ClosingPdu}
 use Rattle.frame.specs.declared.DataPdu.{DataPdu}
 use Rattle.frame.specs.declared.Read.{Read}
 use Rattle.frame.specs.declared.Read.TheVariants.{Closing, Data, ClosingWithLengths, Refused}
-use Rattle.frame.specs.declared.Written.{Written}
-use Rattle.frame.specs.declared.Written.TheVariants.{Done}
+use Rattle.frame.specs.Answers.{Written}
 use Rattle.frame.specs.Counts.{closing_wrong, lengths_wrong}
 use Rattle.frame.specs.Layout.{type_of, stamp_of, control, payload_check_in, payload_part, payload_length, data_pdu, filled, lengths_of, closing_of}
 use Rattle.frame.specs.Paper.{read_paper}
@@ -37,6 +35,8 @@ use Rattle.frame.proofs.WrittenAgain.{Plain, equal, data_again, closing_again, l
 use Rattle.writer.specs.Promise.{Wrote}
 use Rattle.demands.specs.Demand2.{ReadAs, BothChecks, SpareZero, Demand2}
 use Rattle.demands.proofs.AcceptedAgain.{lengths_long, data_writable, closing_writable, lengths_writable, list_writable}
+use Rattle.std.specs.Prelude.{Ok}
+use Rattle.units.specs.declared.refusals.Refusal.TheVariants.{SizeWrong}
 
 -- an accepted answer is no refusal
 not_refused : (r : Read) → ((read_paper r).kind ≡ 0 → ⊥) → (x : Refusal) → Refused x ≡ r → ⊥
@@ -56,18 +56,18 @@ checked s r e h =
     )
 
 -- what an accepted writing leaves
-module _ (a : Written) (frame old : List ℕ) (k : ℕ) (new : List ℕ) (w : Wrote a frame old (Done k) new) where
-  done_is : a ≡ Done k
-  done_is = sym (written_known (Done k) a w.says)
+module _ (a : Written) (frame old : List ℕ) (k : ℕ) (new : List ℕ) (w : Wrote a frame old (Ok k) new) where
+  done_is : a ≡ Ok k
+  done_is = sym (written_known (Ok k) a w.says)
 
-  left_is : new ≡ after (Done k) frame old
+  left_is : new ≡ after (Ok k) frame old
   left_is = w.leaves ∙ ap (λ (x : Written). after x frame old) done_is
 
 read_of : (s t : List ℕ) (r x : Read) → ReadAs s r → s ≡ t → read_frame t ≡ x → r ≡ x
 read_of s t r x e q h = read_known r (read_frame s) e ∙ ap read_frame q ∙ h
 
 data_back_written : (stamp n e : ℕ) (p old : List ℕ) (k : ℕ) (new : List ℕ) (r : Read)
-    → Wrote (write_data stamp n e (length p) (length old)) (data_frame stamp n e p) old (Done k) new → ReadAs (take k new) r
+    → Wrote (write_data stamp n e (length p) (length old)) (data_frame stamp n e p) old (Ok k) new → ReadAs (take k new) r
     → (r ≡ Data (data_pdu stamp n e (payload_kept p))) × (drop 11 (take k new) ≡ p)
 data_back_written stamp n e p old k new r w h =
     let q = ap (take k) (left_is _ _ old k new w) in
@@ -75,11 +75,11 @@ data_back_written stamp n e p old k new r w h =
     (read_of _ _ r _ h q (data_went_in stamp n e (length old) k p old d), ap (drop 11) q ∙ data_there stamp n e (length old) k p old d)
 
 -- what writing again leaves
-again : (a : Written) (frame old : List ℕ) (k : ℕ) (r : Written) (new s : List ℕ) → Wrote a frame old r new → a ≡ Done k → k ≡ length s → frame ≡ s
-    → (r ≡ Done (length s)) × (new ≡ front old s)
+again : (a : Written) (frame old : List ℕ) (k : ℕ) (r : Written) (new s : List ℕ) → Wrote a frame old r new → a ≡ Ok k → k ≡ length s → frame ≡ s
+    → (r ≡ Ok (length s)) × (new ≡ front old s)
 unfolding after
 again a frame old k r new s w e n f = (
-  written_known r a w.says ∙ e ∙ ap Done n,
+  written_known r a w.says ∙ e ∙ ap Ok n,
   w.leaves ∙ ap (λ (x : Written). after x frame old) e ∙ ap (front old) f,
 )
 
@@ -104,13 +104,13 @@ nothing_else_dropped s d e =
     (only_dropped (drop 11 s))
 
 too_long_refused : (s : List ℕ) (r : Read) → type_of s ≡ 1 → 11 ≤ length s → header_wrong 9 s ≡ false → stamp_of s ≤ last_stamp
-    → most_payload < payload_length s → ReadAs s r → r ≡ refuse size_wrong
+    → most_payload < payload_length s → ReadAs s r → r ≡ refuse SizeWrong
 too_long_refused s r one long h st big e =
     read_known r (read_frame s) e
     ∙ size_refused s (λ two. omega (arith, one, two)) (omega (arith, one)) (rw one long) (rw one h) st (rw one (lt-ltb most_payload (payload_length s) big))
 
 closing_again_written : (s : List ℕ) (c : ClosingPdu) (old : List ℕ) (r : Written) (new : List ℕ) → SpareZero s → get_or s 17 0 % 4 ≡ 0
-    → ReadAs s (Closing c) → length s ≤ length old → Wrote (write_closing c (length old)) (closing_frame c) old r new → (r ≡ Done (length s)) × (new ≡ front old s)
+    → ReadAs s (Closing c) → length s ≤ length old → Wrote (write_closing c (length old)) (closing_frame c) old r new → (r ≡ Ok (length s)) × (new ≡ front old s)
 closing_again_written s c old r new z pad e fits w =
     let x = read_as s (Closing c) e in
     let g = read_closing s c x in
@@ -122,7 +122,7 @@ closing_again_written s c old r new z pad e fits w =
 lengths_again_written : (s : List ℕ) (c : ClosingPdu) (old : List ℕ) (r : Written) (new : List ℕ) → SpareZero s → length s ≡ 19 + filled c.number.0
     → (c.number.0 % 2 ≡ 1 → get_or s (18 + filled c.number.0) 0 % 16 ≡ 0) → ReadAs s (ClosingWithLengths c) → length s ≤ length old
     → Wrote (write_lengths c (lengths_of s 0 c.number.0) (length old)) (lengths_frame c (lengths_of s 0 c.number.0)) old r new
-    → (r ≡ Done (length s)) × (new ≡ front old s)
+    → (r ≡ Ok (length s)) × (new ≡ front old s)
 unfolding lengths_wrong
 lengths_again_written s c old r new z l pad e fits w =
     let x = read_as s (ClosingWithLengths c) e in

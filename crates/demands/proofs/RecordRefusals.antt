@@ -6,17 +6,12 @@ use mathlib.Core.List.{List, [], ◌∷◌}
 use lib.Dec.{ltb, eqb}
 use lib.ListN.{length}
 use Rattle.units.specs.Limits.{last_stamp}
-use Rattle.units.specs.Refusals.{refusals}
+use Rattle.units.specs.Refusals.{number_of, found_of, worked_of, refusals}
 use Rattle.fields.proofs.Choosing.{whichever}
 use Rattle.fields.proofs.Tests.{both, and_yes, or_true}
 use Rattle.frame.specs.Paper.{read_paper}
 use Rattle.frame.specs.Reading.{read_frame}
-use Rattle.reception.specs.declared.Joining.{Joining}
-use Rattle.reception.specs.declared.Reported.{Reported}
-use Rattle.reception.specs.declared.Reported.TheVariants.{Done, Refused}
-use Rattle.reception.specs.declared.Taken.{Taken}
-use Rattle.reception.specs.declared.Taken.TheVariants.{Done as TakenDone, Refused as NotTaken}
-use Rattle.reception.specs.declared.Taking.{Taking}
+use Rattle.reception.specs.Answers.{Joining, Reported, Taken, Taking}
 use Rattle.reception.specs.Hearing.{Kept, Outcome, kept_in, held_by, unused, unmatched, damaged_kept, lists_differ, fresh_record, hear_frame, taken_paper, Takes}
 use Rattle.reception.specs.Joining.{JoinPaper, JoinOutcome, capacities_off, other_record, lowest, own_closing_off, join_records, joined_paper, Joins}
 use Rattle.reception.specs.Reporting.{Gap, ReportPaper, gaps_of, gaps_after, report_record, reported_paper, room_of, Reports}
@@ -25,6 +20,7 @@ use Rattle.reception.proofs.HeardTold.{Answered, unmatched_lists, unread, withhe
 use Rattle.several.specs.Rest.{HearsSequence}
 use Rattle.demands.specs.Demand1.{among, carries, of_fresh, of_hearing_many, of_joining, of_report, of_reading, of_hearing, Leaves}
 use Rattle.demands.proofs.Refusals.{accepted_of, no_zero, among_more, read_carries}
+use Rattle.std.specs.Prelude.{Ok, Err}
 
 -- fresh records, and hearing
 abbrev pub OutcomeLeaves : List ℕ → Kept → Outcome → Type 0
@@ -46,11 +42,11 @@ answered_leaves : (k : Kept) (f : List ℕ) (o : Outcome) → Answered k (read_f
 unfolding taken_paper read_paper among
 answered_leaves k f _ (unmatched_lists u) = (refl, λ _. refl)
 answered_leaves k f _ (unread r e) =
-    let c : carries of_reading r.number r.found r.worked_out 0 ≡ true = rw e at (read_carries f) in
-    let q = both (among of_reading r.number && among refusals r.number) _ c in
-    let p = both (among of_reading r.number) _ q.0 in
-    let more = among_more of_reading (13 ∷ 9 ∷ 10 ∷ 11 ∷ []) r.number p.0 in
-    (and_yes (and_yes {a = among of_hearing r.number} (rw more (or_true (eqb 14 r.number))) p.1) q.1, λ _. refl)
+    let c : carries of_reading (number_of r) (found_of r) (worked_of r) 0 ≡ true = rw e at (read_carries f) in
+    let q = both (among of_reading (number_of r) && among refusals (number_of r)) _ c in
+    let p = both (among of_reading (number_of r)) _ q.0 in
+    let more = among_more of_reading (13 ∷ 9 ∷ 10 ∷ 11 ∷ []) (number_of r) p.0 in
+    (and_yes (and_yes {a = among of_hearing (number_of r)} (rw more (or_true (eqb 14 (number_of r)))) p.1) q.1, λ _. refl)
 answered_leaves k f _ (withheld _ damaged w) = (refl, λ _. refl)
 answered_leaves k f _ (withheld _ other w) = (refl, λ _. refl)
 answered_leaves k f _ (withheld _ beyond w) = (refl, λ _. refl)
@@ -72,8 +68,8 @@ many_leaves bearer period stamp old frames room =
 
 pub none_answered : (a : Taken) (ts : List Taken) (old : List ℕ) → (taken_paper a).accepted ≡ 0 → answers_after a ts old ≡ old
 unfolding taken_paper
-none_answered TakenDone ts old e = no_zero e
-none_answered (NotTaken r) ts old e = refl
+none_answered (Ok u) ts old e = no_zero e
+none_answered (Err r) ts old e = refl
 
 pub many_carry : (bearer period stamp : ℕ) (old : Kept) (frames : List (List ℕ)) (ts : List Taken) (answers : List ℕ) (r : Taking) (m e s new : List ℕ)
     → HearsSequence (hear_sequence bearer period stamp old frames (length answers)) ts answers r m e s new
@@ -120,8 +116,8 @@ report_carries k room =
 
 none_listed : (x : Reported) (number : Gap → ℕ) (gaps : List Gap) (old : List ℕ) → (reported_paper x).accepted ≡ 0 → gaps_after x number gaps old ≡ old
 unfolding reported_paper gaps_after
-none_listed (Done r) number gaps old e = no_zero e
-none_listed (Refused r) number gaps old e = refl
+none_listed (Ok r) number gaps old e = no_zero e
+none_listed (Err r) number gaps old e = refl
 
 pub reports_carry : (k : Kept) (firsts counts octets : List ℕ) (r : Reported) (f c o : List ℕ) → Reports k firsts counts octets r f c o
     → (carries of_report (reported_paper r).number (reported_paper r).found (reported_paper r).worked (reported_paper r).accepted ≡ true)

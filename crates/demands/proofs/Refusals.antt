@@ -8,20 +8,16 @@ use mathlib.Core.List.{List, [], ◌∷◌, ◌++◌}
 use lib.Dec.{ltb, leb, eqb}
 use lib.ListN.{length}
 use Rattle.units.specs.Limits.{last_stamp, most_payload}
-use Rattle.units.specs.Refusals.{refusals}
+use Rattle.units.specs.Refusals.{number_of, refusals}
 use Rattle.fields.proofs.Choosing.{whichever}
 use Rattle.fields.proofs.Tests.{both, and_yes}
-use Rattle.clock.specs.declared.Moment.{Moment}
-use Rattle.clock.specs.declared.DueTime.{DueTime}
+use Rattle.clock.specs.Answers.{Moment, DueTime}
 use Rattle.clock.specs.Clock.{past, stamp_of as momentOf, due_at}
 use Rattle.clock.specs.Paper.{moment_paper, due_paper}
 use Rattle.frame.specs.declared.ClosingPdu.{ClosingPdu}
 use Rattle.frame.specs.declared.Read.{Read}
 use Rattle.frame.specs.declared.Read.TheVariants.{Closing, Data, ClosingWithLengths, Refused as NotRead}
-use Rattle.frame.specs.declared.Listed.{Listed}
-use Rattle.frame.specs.declared.Listed.TheVariants.{Lengths, Refused as NotListed}
-use Rattle.frame.specs.declared.Written.{Written}
-use Rattle.frame.specs.declared.Written.TheVariants.{Done, Refused as NotWritten}
+use Rattle.frame.specs.Answers.{Listed, Written}
 use Rattle.frame.specs.Paper.{CountPaper, read_paper, listed_paper, written_paper}
 use Rattle.frame.specs.Listing.{list_lengths, listed}
 use Rattle.frame.specs.Counts.{data_wrong, given_wrong, list_wrong}
@@ -31,6 +27,7 @@ use Rattle.frame.specs.Writing.{write_data, write_closing, write_lengths, after}
 use Rattle.reader.specs.Lists.{Lists}
 use Rattle.writer.specs.Promise.{Wrote}
 use Rattle.demands.specs.Demand1.{among, carries, carries_as, of_reading, of_lengths, of_writing_data, of_writing_closing, of_writing_lengths, of_stamp, of_due, WritesOn}
+use Rattle.std.specs.Prelude.{Ok, Err}
 
 -- reading
 abbrev ReadCarries : Read → Type 0
@@ -87,17 +84,17 @@ ListCarries x = carries_as of_lengths (listed_paper x) ≡ true
 listed_carries : (x : Read) (room : ℕ) → ReadCarries x → ListCarries (list_lengths x room)
 unfolding list_lengths read_paper listed_paper among
 listed_carries (NotRead r) room c =
-    let q = both (among of_reading r.number && among refusals r.number) _ c in
-    let p = both (among of_reading r.number) _ q.0 in
-    and_yes (and_yes (among_more of_reading (12 ∷ []) r.number p.0) p.1) q.1
+    let q = both (among of_reading (number_of r) && among refusals (number_of r)) _ c in
+    let p = both (among of_reading (number_of r)) _ q.0 in
+    and_yes (and_yes (among_more of_reading (12 ∷ []) (number_of r) p.0) p.1) q.1
 listed_carries (Closing p) room c = refl
 listed_carries (Data d) room c = refl
 listed_carries (ClosingWithLengths p) room c = whichever ListCarries _ _ (ltb room p.number.0) refl (λ _. refl)
 
 none_listed : (a : Listed) (s old : List ℕ) → (listed_paper a).accepted ≡ 0 → listed a s old ≡ old
 unfolding listed_paper listed
-none_listed (Lengths n) s old e = no_zero e
-none_listed (NotListed r) s old e = refl
+none_listed (Ok n) s old e = no_zero e
+none_listed (Err r) s old e = refl
 
 pub lists_carry : (s old : List ℕ) (r : Listed) (new : List ℕ) → Lists s old r new → WritesOn of_lengths (listed_paper r) old new
 lists_carry s old r new w = (
@@ -111,8 +108,8 @@ WriteCarries numbers a = carries_as numbers (written_paper a) ≡ true
 
 pub none_written : (a : Written) (frame old : List ℕ) → (written_paper a).accepted ≡ 0 → after a frame old ≡ old
 unfolding written_paper after
-none_written (Done n) frame old e = no_zero e
-none_written (NotWritten r) frame old e = refl
+none_written (Ok n) frame old e = no_zero e
+none_written (Err r) frame old e = refl
 
 pub writes : (numbers : List ℕ) (a : Written) (frame old : List ℕ) (r : Written) (new : List ℕ) → WriteCarries numbers a → Wrote a frame old r new
     → WritesOn numbers (written_paper r) old new

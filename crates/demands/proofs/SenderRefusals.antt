@@ -12,8 +12,7 @@ use Rattle.frame.specs.Layout.{filled}
 use Rattle.frame.specs.Paper.{written_paper}
 use Rattle.frame.specs.Sizes.{data_head, closing_size, lengths_head}
 use Rattle.sender.specs.declared.Sender.{Sender}
-use Rattle.sender.specs.declared.Dispatch.{Dispatch}
-use Rattle.sender.specs.declared.Turning.{Turning}
+use Rattle.sender.specs.Answers.{Dispatch, Turning}
 use Rattle.sender.specs.State.{damaged, is_open, not_later}
 use Rattle.sender.specs.Calls.{turned_paper, open_call, renew_call, data_call, close_call, close_with_call, Turns, Sends}
 use Rattle.demands.specs.Demand1.{among, carries_as, of_opening, of_new_period, of_data, of_closing, of_closing_lengths, SendsOn, TurnsOn}

@@ -1,19 +1,16 @@
 -- Demand 1: "Every call takes every input, hostile frames and damaged records too, and comes to an end. A refusal carries its number from
 -- the table, and no lent memory differs after it." That a call takes every input and comes to an end is what the prover shows of every
 -- function without a `requires`; here stands what any outcome is that meets its promise. Assumes nothing.
-use Rattle.std.specs.Prelude.{ℕ, ◌≡◌, Bool, true, false, cond, ◌&&◌, ◌||◌, List, [], ◌∷◌, ◌++◌, eqb, length}
-use Rattle.units.specs.declared.Refusal.{Refusal}
+use Rattle.std.specs.Prelude.{ℕ, ◌≡◌, Bool, true, false, cond, ◌&&◌, ◌||◌, List, [], ◌∷◌, ◌++◌, eqb, length, Err}
+use Rattle.units.specs.declared.refusals.Refusal.{Refusal}
 use Rattle.units.specs.Refusals.{refusals, tells_checks}
-use Rattle.clock.specs.declared.Moment.{Moment}
-use Rattle.clock.specs.declared.DueTime.{DueTime}
+use Rattle.clock.specs.Answers.{Moment, DueTime}
 use Rattle.clock.specs.Clock.{stamp_of, due_at}
 use Rattle.clock.specs.Paper.{moment_paper, due_paper}
 use Rattle.frame.specs.declared.ClosingPdu.{ClosingPdu}
 use Rattle.frame.specs.declared.Read.{Read}
 use Rattle.frame.specs.declared.Read.TheVariants.{Refused as NotRead}
-use Rattle.frame.specs.declared.Listed.{Listed}
-use Rattle.frame.specs.declared.Listed.TheVariants.{Refused as NotListed}
-use Rattle.frame.specs.declared.Written.{Written}
+use Rattle.frame.specs.Answers.{Listed, Written}
 use Rattle.frame.specs.Paper.{read_paper, listed_paper, written_paper, CountPaper}
 use Rattle.frame.specs.Reading.{read_frame}
 use Rattle.frame.specs.WrongChecks.{ChecksTold, TellsOf}
@@ -21,15 +18,10 @@ use Rattle.frame.specs.Writing.{write_data, write_closing, write_lengths, data_f
 use Rattle.reader.specs.Lists.{Lists}
 use Rattle.writer.specs.Promise.{Wrote}
 use Rattle.sender.specs.declared.Sender.{Sender}
-use Rattle.sender.specs.declared.Dispatch.{Dispatch}
-use Rattle.sender.specs.declared.Turning.{Turning}
+use Rattle.sender.specs.Answers.{Dispatch, Turning}
 use Rattle.sender.specs.State.{closing_by}
 use Rattle.sender.specs.Calls.{turned_paper, open_call, renew_call, data_call, close_call, close_with_call, Turns, Sends}
-use Rattle.reception.specs.declared.Joining.{Joining}
-use Rattle.reception.specs.declared.Reported.{Reported}
-use Rattle.reception.specs.declared.Taken.{Taken}
-use Rattle.reception.specs.declared.Taken.TheVariants.{Refused as NotTaken}
-use Rattle.reception.specs.declared.Taking.{Taking}
+use Rattle.reception.specs.Answers.{Joining, Reported, Taken, Taking}
 use Rattle.reception.specs.Hearing.{Kept, kept_in, unused, empty_kept, unmatched, fresh_record, hear_frame, taken_paper, Takes}
 use Rattle.reception.specs.Joining.{join_records, joined_paper, Joins}
 use Rattle.reception.specs.Reporting.{reported_paper, Reports}
@@ -134,7 +126,7 @@ Leaves numbers old p new = (carries_as numbers p ≡ true) × (p.accepted ≡ 0 
 pub data EachTold : List (List ℕ) → List ℕ → Type 0 where
   none : {rest : List ℕ} → EachTold [] rest
   told : {f : List ℕ} {fs : List (List ℕ)} {ns : List ℕ} (t : Taken) → carries_as of_hearing (taken_paper t) ≡ true → TellsOf f (taken_paper t)
-      → ((q : Refusal) → read_frame f ≡ NotRead q → t ≡ NotTaken q) → EachTold fs ns → EachTold (f ∷ fs) (answer_of t ∷ ns)
+      → ((q : Refusal) → read_frame f ≡ NotRead q → t ≡ Err q) → EachTold fs ns → EachTold (f ∷ fs) (answer_of t ∷ ns)
 
 -- the demand, call by call: of any outcome that meets the promise
 pub record Demand1 : Type 0 where
@@ -174,11 +166,11 @@ pub record Demand1 : Type 0 where
   pub reading_tells : (s : List ℕ) (r : Read) → read_paper r ≡ read_paper (read_frame s)
       → ChecksTold s (read_paper r).number (read_paper r).found (read_paper r).worked
   pub lengths_tell : (s old : List ℕ) (r : Listed) (new : List ℕ) → Lists s old r new → TellsOf s (listed_paper r)
-  pub lengths_hand_on : (s old : List ℕ) (r : Listed) (new : List ℕ) → Lists s old r new → (q : Refusal) → read_frame s ≡ NotRead q → r ≡ NotListed q
+  pub lengths_hand_on : (s old : List ℕ) (r : Listed) (new : List ℕ) → Lists s old r new → (q : Refusal) → read_frame s ≡ NotRead q → r ≡ Err q
   pub hearing_tells : (k : Kept) (bearer period : ℕ) (f : List ℕ) (r : Taking) (m e s : List ℕ) → Takes (hear_frame k bearer period f) r m e s
       → TellsOf f (taken_paper r.answer)
   pub hearing_hands_on : (k : Kept) (bearer period : ℕ) (f : List ℕ) (r : Taking) (m e s : List ℕ) → Takes (hear_frame k bearer period f) r m e s
-      → unmatched k ≡ false → (q : Refusal) → read_frame f ≡ NotRead q → r.answer ≡ NotTaken q
+      → unmatched k ≡ false → (q : Refusal) → read_frame f ≡ NotRead q → r.answer ≡ Err q
   pub each_told : (bearer period stamp : ℕ) (old : Kept) (frames : List (List ℕ)) (answers : List ℕ) (r : Taking) (m e s new : List ℕ)
       → HearsSequence (hear_sequence bearer period stamp old frames (length answers))
       (answers_to (empty_kept bearer period stamp (length old.marks)) bearer period frames) answers r m e s new

@@ -1,17 +1,15 @@
 -- Demand 2: "Frames are written and read as TS 25.446 v17.0.0 says, with both checksums. Reading what we wrote gives back what went in;
 -- writing again what was read gives the same octets (spare bits and padding zero, no extension)." Of any outcomes that meet the promises.
 -- What a payload is, document 02's request 2 says, and is quoted so. Assumes nothing.
-use Rattle.std.specs.Prelude.{ℕ, ◌+◌, ◌%◌, ◌≤◌, ◌<◌, ◌≡◌, ◌⊎◌, false, List, ◌++◌, length, get_or, take, drop}
+use Rattle.std.specs.Prelude.{ℕ, ◌+◌, ◌%◌, ◌≤◌, ◌<◌, ◌≡◌, ◌⊎◌, false, List, ◌++◌, length, get_or, take, drop, Ok}
 use Rattle.units.specs.Limits.{most_payload, last_stamp}
-use Rattle.units.specs.Refusals.{size_wrong}
 use Rattle.fields.specs.Runs.{front}
 use Rattle.checks.specs.Check.{header_check, payload_check}
 use Rattle.frame.specs.declared.ClosingPdu.{ClosingPdu}
 use Rattle.frame.specs.declared.DataPdu.{DataPdu}
 use Rattle.frame.specs.declared.Read.{Read}
 use Rattle.frame.specs.declared.Read.TheVariants.{Closing, Data, ClosingWithLengths}
-use Rattle.frame.specs.declared.Written.{Written}
-use Rattle.frame.specs.declared.Written.TheVariants.{Done}
+use Rattle.frame.specs.Answers.{Written}
 use Rattle.frame.specs.Layout.{type_of, stamp_of, control, header_check_in, payload_check_in, payload_part, payload_length, payload_of, data_pdu, filled, lengths_of}
 use Rattle.frame.specs.Paper.{read_paper}
 use Rattle.frame.specs.Payloads.{payload_kept, AllPayload, IpPacket, Extended}
@@ -20,6 +18,7 @@ use Rattle.frame.specs.Reading.{refuse, header_wrong, said, read_frame}
 use Rattle.frame.specs.Sizes.{short_control, long_control, data_head, lengths_head}
 use Rattle.frame.specs.Writing.{write_data, write_closing, write_lengths, data_frame, closing_frame, lengths_frame}
 use Rattle.writer.specs.Promise.{Wrote}
+use Rattle.units.specs.declared.refusals.Refusal.TheVariants.{SizeWrong}
 
 -- r is what reading the octets s answers
 abbrev pub ReadAs : List ℕ → Read → Type 0
@@ -50,29 +49,29 @@ pub record Demand2 : Type 0 where
       → ReadAs (data_frame stamp n e (p ++ x)) r → r ≡ Data (data_pdu stamp n e (length p))
   -- and where that is above 4,095 octets it applies, whatever the payload check
   pub too_long : (s : List ℕ) (r : Read) → type_of s ≡ 1 → data_head ≤ length s → header_wrong short_control s ≡ false → stamp_of s ≤ last_stamp
-      → most_payload < payload_length s → ReadAs s r → r ≡ refuse size_wrong
+      → most_payload < payload_length s → ReadAs s r → r ≡ refuse SizeWrong
   -- "Reading what we wrote gives back what went in": all of the payload stands in the frame, and what the rule keeps of it is read
   pub data_back : (stamp n e : ℕ) (p old : List ℕ) (k : ℕ) (new : List ℕ) (r : Read)
-      → Wrote (write_data stamp n e (length p) (length old)) (data_frame stamp n e p) old (Done k) new → ReadAs (take k new) r
+      → Wrote (write_data stamp n e (length p) (length old)) (data_frame stamp n e p) old (Ok k) new → ReadAs (take k new) r
       → (r ≡ Data (data_pdu stamp n e (payload_kept p))) × (drop data_head (take k new) ≡ p)
   -- which is all of it with "payloads from which this rule drops nothing"
   pub data_back_whole : (stamp n e : ℕ) (p old : List ℕ) (k : ℕ) (new : List ℕ) (r : Read) → AllPayload p
-      → Wrote (write_data stamp n e (length p) (length old)) (data_frame stamp n e p) old (Done k) new → ReadAs (take k new) r
+      → Wrote (write_data stamp n e (length p) (length old)) (data_frame stamp n e p) old (Ok k) new → ReadAs (take k new) r
       → (r ≡ Data (data_pdu stamp n e (length p))) × (payload_of (take k new) ≡ p)
   pub closing_back : (c : ClosingPdu) (old : List ℕ) (k : ℕ) (new : List ℕ) (r : Read)
-      → Wrote (write_closing c (length old)) (closing_frame c) old (Done k) new → ReadAs (take k new) r → r ≡ Closing c
+      → Wrote (write_closing c (length old)) (closing_frame c) old (Ok k) new → ReadAs (take k new) r → r ≡ Closing c
   pub lengths_back : (c : ClosingPdu) (ls old : List ℕ) (k : ℕ) (new : List ℕ) (r : Read)
-      → Wrote (write_lengths c ls (length old)) (lengths_frame c ls) old (Done k) new → ReadAs (take k new) r
+      → Wrote (write_lengths c ls (length old)) (lengths_frame c ls) old (Ok k) new → ReadAs (take k new) r
       → (r ≡ ClosingWithLengths c) × (lengths_of (take k new) 0 c.number.0 ≡ ls)
   -- "writing again what was read gives the same octets", in front of memory that has room for them
   pub data_again : (s : List ℕ) (d : DataPdu) (old : List ℕ) (r : Written) (new : List ℕ) → SpareZero s → length s ≡ data_head + d.length.0
       → ReadAs s (Data d) → length s ≤ length old
       → Wrote (write_data d.stamp d.number.0 d.elapsed.0 (length (payload_of s)) (length old)) (data_frame d.stamp d.number.0 d.elapsed.0 (payload_of s)) old r new
-      → (r ≡ Done (length s)) × (new ≡ front old s)
+      → (r ≡ Ok (length s)) × (new ≡ front old s)
   pub closing_again : (s : List ℕ) (c : ClosingPdu) (old : List ℕ) (r : Written) (new : List ℕ) → SpareZero s → get_or s long_control 0 % 4 ≡ 0
       → ReadAs s (Closing c) → length s ≤ length old → Wrote (write_closing c (length old)) (closing_frame c) old r new
-      → (r ≡ Done (length s)) × (new ≡ front old s)
+      → (r ≡ Ok (length s)) × (new ≡ front old s)
   pub lengths_again : (s : List ℕ) (c : ClosingPdu) (old : List ℕ) (r : Written) (new : List ℕ) → SpareZero s → length s ≡ lengths_head + filled c.number.0
       → (c.number.0 % 2 ≡ 1 → get_or s (18 + filled c.number.0) 0 % 16 ≡ 0) → ReadAs s (ClosingWithLengths c) → length s ≤ length old
       → Wrote (write_lengths c (lengths_of s 0 c.number.0) (length old)) (lengths_frame c (lengths_of s 0 c.number.0)) old r new
-      → (r ≡ Done (length s)) × (new ≡ front old s)
+      → (r ≡ Ok (length s)) × (new ≡ front old s)

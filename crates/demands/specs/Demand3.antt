@@ -1,7 +1,7 @@
 -- Demand 3: "Hearing an accepted frame adds exactly that frame to a record; joining obeys the laws of a union and is refused exactly when
 -- no sending explains both; for an undamaged closed record the report's heard and missing packets and octets are those of every sending
 -- that explains it." Of any outcomes that meet the promises. Assumes nothing.
-use Rattle.std.specs.Prelude.{ℕ, ◌≤◌, ◌<◌, ◌≡◌, true, ◌⊎◌, ◌↔◌, List, map, length}
+use Rattle.std.specs.Prelude.{ℕ, ◌≤◌, ◌<◌, ◌≡◌, true, ◌⊎◌, ◌↔◌, List, map, length, Ok}
 use Rattle.units.specs.Refusals.{contradiction}
 use Rattle.fields.specs.Runs.{front}
 use Rattle.frame.specs.declared.ClosingPdu.{ClosingPdu}
@@ -9,8 +9,7 @@ use Rattle.frame.specs.declared.DataPdu.{DataPdu}
 use Rattle.frame.specs.declared.Read.TheVariants.{Closing, Data, ClosingWithLengths}
 use Rattle.frame.specs.Reading.{read_frame}
 use Rattle.reception.specs.declared.Report.{Report}
-use Rattle.reception.specs.declared.Reported.{Reported}
-use Rattle.reception.specs.declared.Reported.TheVariants.{Done}
+use Rattle.reception.specs.Answers.{Reported}
 use Rattle.reception.specs.Sendings.{Sent, Whole, Explains}
 use Rattle.reception.specs.Adding.{closed_head, with_packet, with_closing}
 use Rattle.reception.specs.Damage.{Undamaged, Matched}
@@ -95,8 +94,8 @@ pub record Demand3 : Type 0 where
   -- "for an undamaged closed record the report's heard and missing packets and octets are those of every sending that explains it"
   pub reported : (k : Kept) (firsts counts octets : List ℕ) (r : Reported) (f c o : List ℕ) → Proper k → k.head.closed ≡ true
       → length (gaps_of (held_by k)) ≤ room_of firsts counts octets → Reports k firsts counts octets r f c o
-      → (t : Report) × (r ≡ Done t) × ((s : List ℕ) → Explains (held_by k) s → Says t (held_by k) s)
+      → (t : Report) × (r ≡ Ok t) × ((s : List ℕ) → Explains (held_by k) s → Says t (held_by k) s)
   -- and its gaps are the unheard numbers, in rising order, in front of the lent lists
-  pub gaps_listed : (k : Kept) (firsts counts octets : List ℕ) (t : Report) (f c o : List ℕ) → Reports k firsts counts octets (Done t) f c o
+  pub gaps_listed : (k : Kept) (firsts counts octets : List ℕ) (t : Report) (f c o : List ℕ) → Reports k firsts counts octets (Ok t) f c o
       → GapsRight (held_by k) × (f ≡ front firsts (map (λ (g : Gap). g.first) (gaps_of (held_by k))))
       × (c ≡ front counts (map (λ (g : Gap). g.count) (gaps_of (held_by k)))) × (o ≡ front octets (map (λ (g : Gap). g.octets) (gaps_of (held_by k))))

@@ -3,12 +3,11 @@
 use Rattle.std.specs.Prelude.{ℕ, ◌≡◌, List, ℤ}
 use Rattle.checks.specs.Check.{header_check, payload_check}
 use Rattle.clock.specs.Clock.{stamp_of, due_at, late}
-use Rattle.frame.specs.declared.Written.{Written}
+use Rattle.frame.specs.Answers.{Written}
 use Rattle.frame.specs.Paper.{ReadPaper}
 use Rattle.frame.specs.Payloads.{payload_kept}
-use Rattle.sender.specs.declared.Dispatch.{Dispatch}
-use Rattle.sender.specs.declared.Turning.{Turning}
-use Rattle.reception.specs.declared.Taken.{Taken}
+use Rattle.sender.specs.Answers.{Dispatch, Turning}
+use Rattle.reception.specs.Answers.{Taken}
 use Rattle.reception.specs.Hearing.{Kept, Outcome}
 use Rattle.reception.specs.Joining.{JoinOutcome}
 use Rattle.numbers_frames.specs.Reading.{ReadOut, ListsInOne}

@@ -2,12 +2,11 @@
 -- accepted call answers 0, any other is a refusal, also one with checks above its number; where it answers 256 times a value, one that is no
 -- multiple of 256. Assumes nothing.
 use Rattle.std.specs.Prelude.{ℕ, ◌%◌, ◌≡◌, ◌≢◌, List, length}
-use Rattle.frame.specs.declared.Written.{Written}
+use Rattle.frame.specs.Answers.{Written}
 use Rattle.frame.specs.Paper.{read_paper}
 use Rattle.frame.specs.Reading.{read_frame}
-use Rattle.sender.specs.declared.Dispatch.{Dispatch}
-use Rattle.sender.specs.declared.Turning.{Turning}
-use Rattle.reception.specs.declared.Taken.{Taken}
+use Rattle.sender.specs.Answers.{Dispatch, Turning}
+use Rattle.reception.specs.Answers.{Taken}
 use Rattle.reception.specs.Hearing.{Kept, kept_in, unused, fresh_record, hear_frame}
 use Rattle.reception.specs.Joining.{join_records}
 use Rattle.reception.specs.Several.{refusal_number, answer_of, hear_sequence}

@@ -2,14 +2,12 @@
 -- outcome is the answer and all lent memory after it. Assumes nothing.
 use Rattle.std.specs.Prelude.{ℕ, ◌≡◌, List, length, ℤ}
 use Rattle.checks.specs.Check.{header_check, payload_check}
-use Rattle.clock.specs.declared.Moment.{Moment}
-use Rattle.clock.specs.declared.DueTime.{DueTime}
+use Rattle.clock.specs.Answers.{Moment, DueTime}
 use Rattle.clock.specs.Clock.{stamp_of, due_at, late}
 use Rattle.clock.specs.Paper.{moment_paper, due_paper}
 use Rattle.frame.specs.declared.ClosingPdu.{ClosingPdu}
 use Rattle.frame.specs.declared.Read.{Read}
-use Rattle.frame.specs.declared.Listed.{Listed}
-use Rattle.frame.specs.declared.Written.{Written}
+use Rattle.frame.specs.Answers.{Listed, Written}
 use Rattle.frame.specs.Paper.{read_paper}
 use Rattle.frame.specs.Payloads.{payload_kept}
 use Rattle.frame.specs.Reading.{read_frame}
@@ -17,13 +15,10 @@ use Rattle.frame.specs.Writing.{write_data, write_closing, write_lengths, data_f
 use Rattle.reader.specs.Lists.{Lists}
 use Rattle.writer.specs.Promise.{Wrote}
 use Rattle.sender.specs.declared.Sender.{Sender}
-use Rattle.sender.specs.declared.Dispatch.{Dispatch}
+use Rattle.sender.specs.Answers.{Dispatch}
 use Rattle.sender.specs.State.{fresh_sender, closing_by}
 use Rattle.sender.specs.Calls.{open_call, renew_call, data_call, close_call, close_with_call, Turns, Sends}
-use Rattle.reception.specs.declared.Joining.{Joining}
-use Rattle.reception.specs.declared.Reported.{Reported}
-use Rattle.reception.specs.declared.Taken.{Taken}
-use Rattle.reception.specs.declared.Taking.{Taking}
+use Rattle.reception.specs.Answers.{Joining, Reported, Taken, Taking}
 use Rattle.reception.specs.Hearing.{Kept, Outcome, fresh_record, hear_frame, Takes}
 use Rattle.reception.specs.Joining.{join_records, Joins}
 use Rattle.reception.specs.Reporting.{Reports}

@@ -1,15 +1,14 @@
 -- "Versions to be shut out" (document 01, "What the promises have to say"): no function that meets its promise is one of them. Assumes
 -- nothing.
-use Rattle.std.specs.Prelude.{ℕ, ◌+◌, ◌≡◌, true, List, length, get_or}
+use Rattle.std.specs.Prelude.{ℕ, ◌+◌, ◌≡◌, true, List, length, get_or, Ok}
 use Rattle.frame.specs.declared.Read.{Read}
-use Rattle.frame.specs.declared.Written.{Written}
+use Rattle.frame.specs.Answers.{Written}
 use Rattle.frame.specs.Paper.{read_paper, written_paper}
 use Rattle.frame.specs.Reading.{read_frame}
 use Rattle.frame.specs.Sizes.{data_head}
 use Rattle.frame.specs.Writing.{write_data}
 use Rattle.reception.specs.declared.Report.{Report}
-use Rattle.reception.specs.declared.Reported.{Reported}
-use Rattle.reception.specs.declared.Reported.TheVariants.{Done}
+use Rattle.reception.specs.Answers.{Reported}
 use Rattle.reception.specs.Sendings.{Explains}
 use Rattle.reception.specs.Hearing.{Kept, Outcome, held_by, hear_frame, Takes}
 use Rattle.reception.specs.Joining.{JoinOutcome, join_records, Joins}
@@ -58,5 +57,5 @@ pub record ShutOut : Type 0 where
   pub takes_first_only : (f : Kept → ℕ → ℕ → List ℕ → Outcome) → Hears f
       → ((k : Kept) (n bearer period : ℕ) (frame : List ℕ) → get_or k.marks n 0 ≡ 1 → (f k bearer period frame).kept ≡ k) → ⊥
   -- "a report with invented counts": others than those of a sending that explains the closed record
-  pub invents_counts : (f : Kept → ℕ → Reported) → Tells f → (k : Kept) (room : ℕ) (t : Report) (s : List ℕ) → f k room ≡ Done t → k.head.closed ≡ true
+  pub invents_counts : (f : Kept → ℕ → Reported) → Tells f → (k : Kept) (room : ℕ) (t : Report) (s : List ℕ) → f k room ≡ Ok t → k.head.closed ≡ true
       → Explains (held_by k) s → (Says t (held_by k) s → ⊥) → ⊥

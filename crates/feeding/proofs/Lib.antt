@@ -1,3 +1,1 @@
-pub mod MovedDown
 pub mod ReadBehind
-pub mod ReadBytes

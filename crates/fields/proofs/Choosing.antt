@@ -1,5 +1,4 @@
 -- A choice by a test, and a chain of refusals, taken apart from its answer. Assumes nothing.
-use Prim.Native.Nat.{ℕ}
 use mathlib.Core.Path.{◌≡◌, refl}
 use mathlib.Core.Bool.{Bool, true, false, cond}
 use Rattle.fields.specs.Choice.{◌when◌otherwise◌}
@@ -36,12 +35,12 @@ pub same_test : {A : Type 0} (x a b : A) (t : Bool) → (t ≡ false → a ≡ b
 same_test x a b true h = refl
 same_test x a b false h = h refl
 
--- what a chain comes to: the refusal of some number, or what stands behind all of its tests, and then G holds
-pub data Comes {A : Type 0} (refusal : ℕ → A) (G : Type 0) (a : A) : A → Type 0 where
-  refused : (n : ℕ) → Comes refusal G a (refusal n)
+-- what a chain comes to: some refusal, or what stands behind all of its tests, and then G holds
+pub data Comes {R A : Type 0} (refusal : R → A) (G : Type 0) (a : A) : A → Type 0 where
+  refused : (n : R) → Comes refusal G a (refusal n)
   accepted : G → Comes refusal G a a
 
 -- so what holds of every refusal, and of what stands behind where G holds, holds of the chain
-pub whatever : {A : Type 0} {refusal : ℕ → A} {G : Type 0} {a x : A} (P : A → Type 0) → Comes refusal G a x → ((n : ℕ) → P (refusal n)) → (G → P a) → P x
+pub whatever : {R A : Type 0} {refusal : R → A} {G : Type 0} {a x : A} (P : A → Type 0) → Comes refusal G a x → ((n : R) → P (refusal n)) → (G → P a) → P x
 whatever P (refused n) p q = p n
 whatever P (accepted g) p q = q g

@@ -1,21 +1,11 @@
 -- Numbers in octets, the least significant first. Assumes nothing.
-use Prim.Native.Nat.{ℕ, zero, suc, ◌+◌, ◌*◌, ◌^◌, ◌≤◌, ◌<◌}
-use native.Mathlib.Nat.{pow-suc, add-zero, add_assoc, mul-le-mul_right}
+use Prim.Native.Nat.{ℕ, zero, suc, ◌+◌, ◌^◌, ◌≤◌, ◌<◌}
+use native.Mathlib.Nat.{pow-suc, mul-le-mul_right}
 use native.Mathlib.Omega.{arith}
 use mathlib.Core.Path.{◌≡◌, refl}
 use mathlib.Core.List.{List, ◌++◌}
 use lib.ListN.{length, get_or, get_or-append}
 use Rattle.fields.specs.Numbers.{le}
-
--- two octets
-pub le_two : (s : List ℕ) (i : ℕ) → le 2 s i ≡ get_or s i 0 + get_or s (i + 1) 0 * 256
-unfolding le
-le_two s i = rw (add-zero i) (omega arith)
-
--- four octets are two and two
-pub le_four : (s : List ℕ) (i : ℕ) → le 4 s i ≡ le 2 s i + le 2 s (i + 2) * 65536
-unfolding le
-le_four s i = rw (add-zero (i + 2), add_assoc i 2 1) (omega arith)
 
 -- what stands behind the octets changes nothing
 pub le_append : (w i : ℕ) (s t : List ℕ) → i + w ≤ length s → le w (s ++ t) i ≡ le w s i

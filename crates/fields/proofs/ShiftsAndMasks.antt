@@ -8,12 +8,9 @@ use lib.Arith.{mod-mul}
 use lib.Pow.{pow_pos, pow-add, pow-lt, pow_mono}
 use lib.Bits.{bit_and, bit_or, and_mask, or_mod, or_shifted}
 
--- the n low bits, kept by a mask that is worked out: its bound, and what it keeps
+-- the n low bits, kept by a mask that is worked out
 unit : (w n : ℕ) → n < w → 1 * 2 ^ n % 2 ^ w ≡ 2 ^ n
 unit w n h = ap (λ (m : ℕ). m % 2 ^ w) (one-mul (2 ^ n)) ∙ mod-eq_of_lt (pow-lt h)
-
-pub unit_one : (w n : ℕ) → n < w → 1 ≤ 1 * 2 ^ n % 2 ^ w
-unit_one w n h = rw (unit w n h) (pow_pos n)
 
 pub masked : (w x n : ℕ) → n < w → bit_and x (1 * 2 ^ n % 2 ^ w - 1) ≡ x % 2 ^ n
 masked w x n h = ap (λ (m : ℕ). bit_and x (m - 1)) (unit w n h) ∙ and_mask x n

@@ -8,9 +8,8 @@ use mathlib.Core.Bool.{false}
 use lib.ListN.{length}
 use lib.Dec.{eqb, ltb}
 use borrow.Author.Tests.{le-ltb, ne_eqb, ltb-false, eqb-false}
-use Rattle.units.specs.declared.Refusal.{Refusal}
+use Rattle.units.specs.declared.refusals.Refusal.{Refusal}
 use Rattle.units.specs.Limits.{last_stamp}
-use Rattle.units.specs.Refusals.{refusing}
 use Rattle.fields.proofs.Choosing.{past}
 use Rattle.frame.specs.declared.Read.{Read}
 use Rattle.frame.specs.declared.DataPdu.{DataPdu}
@@ -18,6 +17,7 @@ use Rattle.frame.specs.declared.ClosingPdu.{ClosingPdu}
 use Rattle.frame.specs.declared.Read.TheVariants.{Closing, Data, ClosingWithLengths, Refused}
 use Rattle.frame.specs.Layout.{control, least, type_of, stamp_of, data_of, closing_of}
 use Rattle.frame.specs.Reading.{read_body, read_headed, read_frame, refuse, refuse_header, refuse_payload, header_wrong, length_wrong, check_wrong, counts_wrong, said}
+use Rattle.units.specs.declared.refusals.Refusal.TheVariants.{CountsImpossible, SizeWrong, StampTooHigh, TooShort, TypeTwo, TypeUnknown}
 
 pub control_lt : (t : ℕ) → control t < least t
 control_lt zero = omega arith
@@ -33,13 +33,6 @@ pub least_other : (t : ℕ) → (t ≡ 0 → ⊥) → (t ≡ 1 → ⊥) → leas
 least_other zero h g = absurd (h refl)
 least_other (suc zero) h g = absurd (g refl)
 least_other (suc (suc t)) h g = refl
-
--- every type but 0 and 1 is read as Type 3: refusals 2 and 3 come before
-pub body_other : (t : ℕ) (s : List ℕ) → (t ≡ 0 → ⊥) → (t ≡ 1 → ⊥) → read_body t s ≡ read_body 3 s
-unfolding read_body
-body_other zero s h g = absurd (h refl)
-body_other (suc zero) s h g = absurd (g refl)
-body_other (suc (suc t)) s h g = refl
 
 -- no refusal applies
 pub record Good (s : List ℕ) : Type 0 where
@@ -72,15 +65,15 @@ read_good s g =
 pub good_read : (s : List ℕ) (x : Read) → ((r : Refusal) → Refused r ≡ x → ⊥) → read_frame s ≡ x → Good s × (said (type_of s) s ≡ x)
 unfolding read_frame read_headed read_body
 good_read s x acc e =
-    let p1 = past (refuse 1) _ x (eqb (length s) 0) (acc (refusing 1)) e in
-    let p2 = past (refuse 2) _ x (eqb (type_of s) 2) (acc (refusing 2)) p1.1 in
-    let p3 = past (refuse 3) _ x (ltb 3 (type_of s)) (acc (refusing 3)) p2.1 in
-    let p4 = past (refuse 1) _ x (ltb (length s) (least (type_of s))) (acc (refusing 1)) p3.1 in
+    let p1 = past (refuse TooShort) _ x (eqb (length s) 0) (acc TooShort) e in
+    let p2 = past (refuse TypeTwo) _ x (eqb (type_of s) 2) (acc TypeTwo) p1.1 in
+    let p3 = past (refuse TypeUnknown) _ x (ltb 3 (type_of s)) (acc TypeUnknown) p2.1 in
+    let p4 = past (refuse TooShort) _ x (ltb (length s) (least (type_of s))) (acc TooShort) p3.1 in
     let p5 = past (refuse_header (control (type_of s)) s) _ x (header_wrong (control (type_of s)) s) (acc _) p4.1 in
-    let p6 = past (refuse 5) _ x (ltb last_stamp (stamp_of s)) (acc (refusing 5)) p5.1 in
-    let p7 = past (refuse 6) _ x (length_wrong (type_of s) s) (acc (refusing 6)) p6.1 in
+    let p6 = past (refuse StampTooHigh) _ x (ltb last_stamp (stamp_of s)) (acc StampTooHigh) p5.1 in
+    let p7 = past (refuse SizeWrong) _ x (length_wrong (type_of s) s) (acc SizeWrong) p6.1 in
     let p8 = past (refuse_payload (control (type_of s)) s) _ x (check_wrong (type_of s) s) (acc _) p7.1 in
-    let p9 = past (refuse 8) (said (type_of s) s) x (counts_wrong (type_of s) s) (acc (refusing 8)) p8.1 in
+    let p9 = past (refuse CountsImpossible) (said (type_of s) s) x (counts_wrong (type_of s) s) (acc CountsImpossible) p8.1 in
     let n0 = eqb-false (length s) 0 p1.0 in (
       record {
         some = omega arith;

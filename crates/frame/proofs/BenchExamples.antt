@@ -3,7 +3,6 @@
 use Prim.Native.Nat.{ℕ}
 use mathlib.Core.Path.{◌≡◌, refl}
 use mathlib.Core.List.{List, [], ◌∷◌}
-use Rattle.units.specs.Refusals.{payload_check_wrong}
 use Rattle.fields.specs.Numbers.{be, octets}
 use Rattle.checks.specs.Check.{divide, low_digits, bits_of, check}
 use Rattle.frame.specs.declared.DataPdu.{DataPdu}
@@ -12,8 +11,9 @@ use Rattle.frame.specs.declared.Read.TheVariants.{Closing, Data, ClosingWithLeng
 use Rattle.frame.specs.Layout.{data_pdu, length_at, sum_lengths}
 use Rattle.frame.specs.Payloads.{starts_v4, starts_v6, payload_kept}
 use Rattle.frame.specs.Counts.{data_wrong, closing_wrong, lengths_wrong}
-use Rattle.frame.specs.Reading.{refuse_check, read_frame, read_headed, read_body}
+use Rattle.frame.specs.Reading.{refuse, read_frame, read_headed, read_body}
 use Rattle.frame.specs.Writing.{data_frame, closing_frame, lengths_frame, packed}
+use Rattle.units.specs.Refusals.{payload_refusal}
 
 -- a first packet with a payload of so many octets
 abbrev pub first : ℕ → DataPdu
@@ -72,7 +72,7 @@ D_read = refl
 abbrev pub D_printed : List ℕ
 D_printed = 0x30 ∷ 0 ∷ 0 ∷ 0 ∷ 1 ∷ 0 ∷ 0 ∷ 0 ∷ 1 ∷ 0 ∷ 0 ∷ 1 ∷ 0 ∷ 0 ∷ 0 ∷ 0 ∷ 1 ∷ 0x02 ∷ 0x02 ∷ 0x00 ∷ 0x10 ∷ []
 
-D_printed_read : read_frame D_printed ≡ refuse_check payload_check_wrong 514 49
+D_printed_read : read_frame D_printed ≡ refuse (payload_refusal 514 49)
 unfolding be divide low_digits bits_of check read_frame read_headed read_body closing_wrong lengths_wrong length_at sum_lengths
 D_printed_read = refl
 

@@ -1,15 +1,16 @@
 -- What reading tells of a frame's checks: both of a check that is wrong, and zeros with any other answer. Assumes nothing.
 use Prim.Native.Nat.{ℕ, zero, suc, ◌≤◌}
 use native.Mathlib.Omega.{arith}
-use mathlib.Core.Path.{◌≡◌, refl, sym}
+use mathlib.Core.Path.{◌≡◌, refl, sym, ◌∙◌}
 use mathlib.Core.Bool.{true, false, not, false≢true, true≢false}
 use mathlib.Core.List.{List}
 use lib.Dec.{eqb, ltb}
 use lib.ListN.{length, take}
 use borrow.Author.Tests.{eqb-false, not-true, le-ltb, ne_eqb}
-use Rattle.units.specs.declared.Refusal.{Refusal}
+use Rattle.units.specs.declared.refusals.Refusal.{Refusal}
 use Rattle.units.specs.Limits.{last_stamp}
-use Rattle.units.specs.Refusals.{refusing, refusing_check, tells_checks, header_check_wrong, size_wrong, payload_check_wrong}
+use Rattle.units.proofs.ToldByNumber.{refusal_with, told_again}
+use Rattle.units.specs.Refusals.{number_of, found_of, worked_of, tells_checks, header_check_wrong, payload_check_wrong}
 use Rattle.fields.proofs.Choosing.{whichever, tested}
 use Rattle.checks.specs.Check.{header_check, payload_check}
 use Rattle.frame.specs.declared.Read.{Read}
@@ -19,6 +20,7 @@ use Rattle.frame.specs.Paper.{read_paper}
 use Rattle.frame.specs.Reading.{refuse, refuse_header, refuse_payload, header_wrong, length_wrong, check_wrong, counts_wrong, said, read_body, read_headed, read_frame}
 use Rattle.frame.specs.WrongChecks.{WrongCheck, ChecksTold}
 use Rattle.frame.proofs.Accepted.{least_ge}
+use Rattle.units.specs.declared.refusals.Refusal.TheVariants.{SizeWrong}
 
 -- with any other number, or accepted, there are zeros
 pub zeros_told : (s : List ℕ) (n : ℕ) → tells_checks n ≡ false → ChecksTold s n 0 0
@@ -90,25 +92,25 @@ read_told s =
     (λ _. whichever (ReadTells s) _ _ (ltb (length s) (least (type_of s))) (zeros_told s 1 refl) (λ _. headed_told s))))
 
 -- a refusal with zeros is that of its number alone
-pub no_checks : (n found worked : ℕ) → (found ≡ 0) × (worked ≡ 0) → refusing_check n found worked ≡ refusing n
-no_checks n found worked z = rw (z.0, z.1)
+pub no_checks : (r : Refusal) → (found_of r ≡ 0) × (worked_of r ≡ 0) → r ≡ refusal_with (number_of r) 0 0
+no_checks r z = sym (told_again r) ∙ rw (z.0, z.1)
 
 -- of a frame that is refused
 module _ (s : List ℕ) (r : Refusal) (e : read_frame s ≡ Refused r) where
-  pub refusal_told : ChecksTold s r.number r.found r.worked_out
+  pub refusal_told : ChecksTold s (number_of r) (found_of r) (worked_of r)
   unfolding read_paper
   refusal_told = rw e at (read_told s)
 
-  pub told_header : r.number ≡ header_check_wrong
-      → WrongCheck r.found r.worked_out (header_check_in (control (type_of s)) s) (header_check (take (control (type_of s)) s))
+  pub told_header : number_of r ≡ header_check_wrong
+      → WrongCheck (found_of r) (worked_of r) (header_check_in (control (type_of s)) s) (header_check (take (control (type_of s)) s))
   told_header = refusal_told.header
 
-  pub told_payload : r.number ≡ payload_check_wrong
-      → WrongCheck r.found r.worked_out (payload_check_in (control (type_of s)) s) (payload_check (payload_part (control (type_of s)) s))
+  pub told_payload : number_of r ≡ payload_check_wrong
+      → WrongCheck (found_of r) (worked_of r) (payload_check_in (control (type_of s)) s) (payload_check (payload_part (control (type_of s)) s))
   told_payload = refusal_told.payload
 
-  pub told_nothing : tells_checks r.number ≡ false → r ≡ refusing r.number
-  told_nothing t = no_checks r.number r.found r.worked_out (refusal_told.neither t)
+  pub told_nothing : tells_checks (number_of r) ≡ false → r ≡ refusal_with (number_of r) 0 0
+  told_nothing t = no_checks r (refusal_told.neither t)
 
 -- and the other way: a wrong check is told, where nothing comes before it
 module _ (s : List ℕ) (two : type_of s ≡ 2 → ⊥) (known : type_of s ≤ 3) (long : least (type_of s) ≤ length s) where
@@ -128,7 +130,7 @@ module _ (s : List ℕ) (two : type_of s ≡ 2 → ⊥) (known : type_of s ≤ 3
   header_refused w = rw headed (simp w)
 
   -- a wrong size likewise, whatever the payload check
-  pub size_refused : header_wrong (control (type_of s)) s ≡ false → stamp_of s ≤ last_stamp → length_wrong (type_of s) s ≡ true → read_frame s ≡ refuse size_wrong
+  pub size_refused : header_wrong (control (type_of s)) s ≡ false → stamp_of s ≤ last_stamp → length_wrong (type_of s) s ≡ true → read_frame s ≡ refuse SizeWrong
   unfolding read_headed read_body
   size_refused h p l = rw headed (simp (h, le-ltb last_stamp (stamp_of s) p, l))
 

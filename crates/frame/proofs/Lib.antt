@@ -10,5 +10,6 @@ pub mod OrderOfRefusals
 pub mod Payloads
 pub mod ReadBack
 pub mod Said
+pub mod TypeNamed
 pub mod WhatWentIn
 pub mod WrittenAgain

@@ -9,13 +9,11 @@ use lib.ListN.{length, take}
 use lib.Dec.{ltb}
 use borrow.Author.Tests.{ltb-false}
 use Rattle.units.specs.Limits.{most_payload, last_stamp}
-use Rattle.units.specs.Refusals.{stamp_too_high, counts_impossible, no_room, payload_too_long, lengths_wrong}
 use Rattle.fields.specs.Numbers.{octets}
 use Rattle.fields.proofs.Choosing.{past}
 use Rattle.fields.proofs.Laying.{take_front}
 use Rattle.frame.specs.declared.ClosingPdu.{ClosingPdu}
 use Rattle.frame.specs.declared.Read.TheVariants.{Closing, Data, ClosingWithLengths}
-use Rattle.frame.specs.declared.Written.TheVariants.{Done}
 use Rattle.frame.specs.Layout.{payload_part, data_pdu, filled, lengths_of}
 use Rattle.frame.specs.Payloads.{payload_kept, AllPayload}
 use Rattle.frame.specs.Counts.{data_wrong, given_wrong, list_wrong}
@@ -25,6 +23,10 @@ use Rattle.frame.proofs.Fitting.{given_fits, length_packed}
 use Rattle.frame.proofs.LengthsBack.{lengths_back, list_back}
 use Rattle.frame.proofs.Payloads.{payload_most}
 use Rattle.frame.proofs.ReadBack.{part_back, data_back, closing_back}
+use Rattle.frame.specs.Answers.{Written}
+use Rattle.std.specs.Prelude.{Ok}
+use Rattle.units.specs.declared.refusals.Refusal.{Refusal}
+use Rattle.units.specs.declared.refusals.Refusal.TheVariants.{CountsImpossible, LengthsWrong, NoRoom, PayloadTooLong, StampTooHigh}
 
 -- how many octets each frame has
 pub data_length : (stamp n e : ℕ) (p : List ℕ) → length (data_frame stamp n e p) ≡ 11 + length p
@@ -40,20 +42,20 @@ unfolding octets lengths_frame
 lengths_length c ls = omega (arith, length_packed ls)
 
 -- what stands in the first octets of the memory is the frame
-written_in_front : (frame old : List ℕ) (k : ℕ) → length frame ≡ k → take k (after (Done k) frame old) ≡ frame
+written_in_front : (frame old : List ℕ) (k : ℕ) → length frame ≡ k → take k (after (Ok k) frame old) ≡ frame
 unfolding after
 written_in_front frame old k e = take_front old frame k e
 
-done : {m k : ℕ} → Done m ≡ Done k → m ≡ k
+done : {m k : ℕ} → ◌≡◌ {A = Written} (Ok m) (Ok k) → m ≡ k
 done e = cc
 
-no_refusal : (k n : ℕ) → refuse_write n ≡ Done k → ⊥
-no_refusal k n e =
+no_refusal : (k : ℕ) (r : Refusal) → refuse_write r ≡ Ok k → ⊥
+no_refusal k r e =
     let z : ◌≡◌ {A = ℕ} 0 1 = cc in
     omega arith
 
 -- Type 1
-module _ (stamp n e room k : ℕ) (p old : List ℕ) (h : write_data stamp n e (length p) room ≡ Done k) where
+module _ (stamp n e room k : ℕ) (p old : List ℕ) (h : write_data stamp n e (length p) room ≡ Ok k) where
   pub record Accepted-data : Type 0 where
     pub stamped : stamp ≤ last_stamp
     pub short : length p ≤ most_payload
@@ -63,13 +65,13 @@ module _ (stamp n e room k : ℕ) (p old : List ℕ) (h : write_data stamp n e (
   data_accepted : Accepted-data
   unfolding write_data
   data_accepted =
-      let p1 = past (refuse_write stamp_too_high) _ (Done k) (ltb last_stamp stamp) (no_refusal k stamp_too_high) h in
-      let p2 = past (refuse_write payload_too_long) _ (Done k) (ltb most_payload (length p)) (no_refusal k payload_too_long) p1.1 in
-      let p3 = past (refuse_write counts_impossible) _ (Done k) (data_wrong n e) (no_refusal k counts_impossible) p2.1 in
-      let p4 = past (refuse_write no_room) (Done (11 + length p)) (Done k) (ltb room (11 + length p)) (no_refusal k no_room) p3.1 in
+      let p1 = past (refuse_write StampTooHigh) _ (Ok k) (ltb last_stamp stamp) (no_refusal k StampTooHigh) h in
+      let p2 = past (refuse_write PayloadTooLong) _ (Ok k) (ltb most_payload (length p)) (no_refusal k PayloadTooLong) p1.1 in
+      let p3 = past (refuse_write CountsImpossible) _ (Ok k) (data_wrong n e) (no_refusal k CountsImpossible) p2.1 in
+      let p4 = past (refuse_write NoRoom) (Ok (11 + length p)) (Ok k) (ltb room (11 + length p)) (no_refusal k NoRoom) p3.1 in
       record { stamped = ltb-false last_stamp stamp p1.0; short = ltb-false most_payload (length p) p2.0; counted = p3.0; size = done p4.1 }
 
-  pub data_went_in : read_frame (take k (after (Done k) (data_frame stamp n e p) old))
+  pub data_went_in : read_frame (take k (after (Ok k) (data_frame stamp n e p) old))
       ≡ Data (data_pdu stamp n e (payload_kept p))
   data_went_in =
       let a = data_accepted in
@@ -77,36 +79,36 @@ module _ (stamp n e room k : ℕ) (p old : List ℕ) (h : write_data stamp n e (
       ∙ data_back stamp n e p a.stamped (let m = payload_most p in let z = a.short in omega (arith, m, z)) a.counted
 
   -- with the payload's own length, where the rule drops nothing from it
-  pub data_went_in_whole : AllPayload p → read_frame (take k (after (Done k) (data_frame stamp n e p) old))
+  pub data_went_in_whole : AllPayload p → read_frame (take k (after (Ok k) (data_frame stamp n e p) old))
       ≡ Data (data_pdu stamp n e (length p))
   data_went_in_whole all = data_went_in ∙ rw all
 
   -- and all of the payload stands there, also what is dropped when it is read
-  pub data_there : payload_part 9 (take k (after (Done k) (data_frame stamp n e p) old)) ≡ p
+  pub data_there : payload_part 9 (take k (after (Ok k) (data_frame stamp n e p) old)) ≡ p
   data_there =
       ap (payload_part 9) (written_in_front (data_frame stamp n e p) old k (data_length stamp n e p ∙ data_accepted.size)) ∙ part_back stamp n e p
 
 -- Type 0
-module _ (c : ClosingPdu) (room k : ℕ) (old : List ℕ) (h : write_closing c room ≡ Done k) where
-  pub closing_went_in : read_frame (take k (after (Done k) (closing_frame c) old)) ≡ Closing c
+module _ (c : ClosingPdu) (room k : ℕ) (old : List ℕ) (h : write_closing c room ≡ Ok k) where
+  pub closing_went_in : read_frame (take k (after (Ok k) (closing_frame c) old)) ≡ Closing c
   unfolding write_closing
   closing_went_in =
-      let p1 = past (refuse_write stamp_too_high) _ (Done k) (ltb last_stamp c.stamp) (no_refusal k stamp_too_high) h in
-      let p2 = past (refuse_write counts_impossible) _ (Done k) (given_wrong c) (no_refusal k counts_impossible) p1.1 in
-      let p3 = past (refuse_write no_room) (Done 18) (Done k) (ltb room 18) (no_refusal k no_room) p2.1 in
+      let p1 = past (refuse_write StampTooHigh) _ (Ok k) (ltb last_stamp c.stamp) (no_refusal k StampTooHigh) h in
+      let p2 = past (refuse_write CountsImpossible) _ (Ok k) (given_wrong c) (no_refusal k CountsImpossible) p1.1 in
+      let p3 = past (refuse_write NoRoom) (Ok 18) (Ok k) (ltb room 18) (no_refusal k NoRoom) p2.1 in
       ap read_frame (written_in_front (closing_frame c) old k (closing_length c ∙ done p3.1))
       ∙ closing_back c (ltb-false last_stamp c.stamp p1.0) (given_fits c p2.0)
 
 -- Type 3, and each of its lengths
-module _ (c : ClosingPdu) (ls : List ℕ) (room k : ℕ) (old : List ℕ) (h : write_lengths c ls room ≡ Done k) where
-  pub lengths_went_in : (read_frame (take k (after (Done k) (lengths_frame c ls) old)) ≡ ClosingWithLengths c)
-      × (lengths_of (take k (after (Done k) (lengths_frame c ls) old)) 0 c.number.0 ≡ ls)
+module _ (c : ClosingPdu) (ls : List ℕ) (room k : ℕ) (old : List ℕ) (h : write_lengths c ls room ≡ Ok k) where
+  pub lengths_went_in : (read_frame (take k (after (Ok k) (lengths_frame c ls) old)) ≡ ClosingWithLengths c)
+      × (lengths_of (take k (after (Ok k) (lengths_frame c ls) old)) 0 c.number.0 ≡ ls)
   unfolding write_lengths
   lengths_went_in =
-      let p1 = past (refuse_write stamp_too_high) _ (Done k) (ltb last_stamp c.stamp) (no_refusal k stamp_too_high) h in
-      let p2 = past (refuse_write counts_impossible) _ (Done k) (given_wrong c) (no_refusal k counts_impossible) p1.1 in
-      let p3 = past (refuse_write lengths_wrong) _ (Done k) (list_wrong ls c.number.0 c.elapsed.0) (no_refusal k lengths_wrong) p2.1 in
-      let p4 = past (refuse_write no_room) (Done (19 + filled (length ls))) (Done k) (ltb room (19 + filled (length ls))) (no_refusal k no_room) p3.1 in
+      let p1 = past (refuse_write StampTooHigh) _ (Ok k) (ltb last_stamp c.stamp) (no_refusal k StampTooHigh) h in
+      let p2 = past (refuse_write CountsImpossible) _ (Ok k) (given_wrong c) (no_refusal k CountsImpossible) p1.1 in
+      let p3 = past (refuse_write LengthsWrong) _ (Ok k) (list_wrong ls c.number.0 c.elapsed.0) (no_refusal k LengthsWrong) p2.1 in
+      let p4 = past (refuse_write NoRoom) (Ok (19 + filled (length ls))) (Ok k) (ltb room (19 + filled (length ls))) (no_refusal k NoRoom) p3.1 in
       let st = ltb-false last_stamp c.stamp p1.0 in
       let f = given_fits c p2.0 in
       let e = written_in_front (lengths_frame c ls) old k (lengths_length c ls ∙ done p4.1) in

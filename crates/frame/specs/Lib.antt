@@ -1,3 +1,4 @@
+pub mod Answers
 pub mod Counts
 pub mod Layout
 pub mod Listing
@@ -5,5 +6,6 @@ pub mod Paper
 pub mod Payloads
 pub mod Reading
 pub mod Sizes
+pub mod Types
 pub mod Writing
 pub mod WrongChecks

@@ -1,12 +1,10 @@
 -- Document 01's number and values for each case of an answer: "a refusal returns its number and zeros elsewhere"; and the checks of
 -- document 02, request 6, with it, in each paper `found` and `worked`. The promises are about these. Assumes nothing.
-use Rattle.std.specs.Prelude.{ℕ}
+use Rattle.std.specs.Prelude.{ℕ, Ok, Err}
+use Rattle.units.specs.Refusals.{number_of, found_of, worked_of}
 use Rattle.frame.specs.declared.Read.{Read}
 use Rattle.frame.specs.declared.Read.TheVariants.{Closing, Data, ClosingWithLengths, Refused as NotRead}
-use Rattle.frame.specs.declared.Written.{Written}
-use Rattle.frame.specs.declared.Written.TheVariants.{Done, Refused as NotWritten}
-use Rattle.frame.specs.declared.Listed.{Listed}
-use Rattle.frame.specs.declared.Listed.TheVariants.{Lengths, Refused as NotListed}
+use Rattle.frame.specs.Answers.{Written, Listed}
 use Rattle.frame.specs.declared.ClosingPdu.{ClosingPdu}
 
 -- of reading: the refusal's number and both checks, or zeros; one more than the PDU type; the fields; and the payload's length
@@ -56,7 +54,7 @@ read_paper (Data d) =
     }
 read_paper (ClosingWithLengths c) = closing_paper 4 c
 read_paper (NotRead r) =
-    record { number = r.number; found = r.found; worked = r.worked_out; kind = 0; stamp = 0; packet = 0; elapsed = 0; packets = 0; octets = 0; payload = 0 }
+    record { number = number_of r; found = found_of r; worked = worked_of r; kind = 0; stamp = 0; packet = 0; elapsed = 0; packets = 0; octets = 0; payload = 0 }
 
 -- of writing and listing: the refusal's number and both checks, or zeros; 1 where accepted; and how many were written
 pub record CountPaper : Type 0 where
@@ -68,10 +66,10 @@ pub record CountPaper : Type 0 where
 
 -- of writing: how many octets
 unfoldable pub written_paper : Written → CountPaper
-written_paper (Done n) = record { number = 0; found = 0; worked = 0; accepted = 1; count = n }
-written_paper (NotWritten r) = record { number = r.number; found = r.found; worked = r.worked_out; accepted = 0; count = 0 }
+written_paper (Ok n) = record { number = 0; found = 0; worked = 0; accepted = 1; count = n }
+written_paper (Err r) = record { number = number_of r; found = found_of r; worked = worked_of r; accepted = 0; count = 0 }
 
 -- of reading lengths into a lent list: how many lengths
 unfoldable pub listed_paper : Listed → CountPaper
-listed_paper (Lengths n) = record { number = 0; found = 0; worked = 0; accepted = 1; count = n.0 }
-listed_paper (NotListed r) = record { number = r.number; found = r.found; worked = r.worked_out; accepted = 0; count = 0 }
+listed_paper (Ok n) = record { number = 0; found = 0; worked = 0; accepted = 1; count = n.0 }
+listed_paper (Err r) = record { number = number_of r; found = found_of r; worked = worked_of r; accepted = 0; count = 0 }

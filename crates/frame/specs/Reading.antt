@@ -2,7 +2,8 @@
 -- otherwise what the frame says. Assumes nothing.
 use Rattle.std.specs.Prelude.{ℕ, zero, suc, ◌+◌, List, Bool, false, not, ◌||◌, length, take, ltb, eqb}
 use Rattle.units.specs.Limits.{most_payload, last_stamp}
-use Rattle.units.specs.Refusals.{refusing, refusing_check, too_short, type_two, type_unknown, header_check_wrong, stamp_too_high, size_wrong, payload_check_wrong, counts_impossible}
+use Rattle.units.specs.Refusals.{header_refusal, payload_refusal}
+use Rattle.units.specs.declared.refusals.Refusal.{Refusal}
 use Rattle.fields.specs.Choice.{◌when◌otherwise◌}
 use Rattle.checks.specs.Check.{header_check, payload_check}
 use Rattle.frame.specs.declared.Read.{Read}
@@ -10,14 +11,11 @@ use Rattle.frame.specs.declared.Read.TheVariants.{Closing, Data, ClosingWithLeng
 use Rattle.frame.specs.Sizes.{short_control, long_control, closing_size, lengths_head}
 use Rattle.frame.specs.Layout.{type_of, stamp_of, number_of, elapsed_of, control, least, header_check_in, payload_check_in, payload_part, payload_length, filled, data_of, closing_of}
 use Rattle.frame.specs.Counts.{data_wrong, closing_wrong, lengths_wrong}
+use Rattle.units.specs.declared.refusals.Refusal.TheVariants.{CountsImpossible, SizeWrong, StampTooHigh, TooShort, TypeTwo, TypeUnknown}
 
--- the refusal with a number
-abbrev pub refuse : ℕ → Read
-refuse n = Refused (refusing n)
-
--- the refusal of a wrong check, with the check found and the check worked out
-abbrev pub refuse_check : ℕ → ℕ → ℕ → Read
-refuse_check n found worked = Refused (refusing_check n found worked)
+-- a refusal
+abbrev pub refuse : Refusal → Read
+refuse r = Refused r
 
 -- "The header check covers the control part", of n octets
 abbrev pub header_wrong : ℕ → List ℕ → Bool
@@ -29,11 +27,11 @@ payload_wrong n s = not (eqb (payload_check (payload_part n s)) (payload_check_i
 
 -- refusal 4: found is the header check that stands in the frame, worked out is that of its control part
 abbrev pub refuse_header : ℕ → List ℕ → Read
-refuse_header n s = refuse_check header_check_wrong (header_check_in n s) (header_check (take n s))
+refuse_header n s = refuse (header_refusal (header_check_in n s) (header_check (take n s)))
 
 -- refusal 7: found is the payload check that stands in the frame, worked out is that of its payload part
 abbrev pub refuse_payload : ℕ → List ℕ → Read
-refuse_payload n s = refuse_check payload_check_wrong (payload_check_in n s) (payload_check (payload_part n s))
+refuse_payload n s = refuse (payload_refusal (payload_check_in n s) (payload_check (payload_part n s)))
 
 -- refusal 6: "Type 0 not 18 octets; Type 1 payload above 4,095; Type 3 not 19+W to 19+W+4"; in Type 1 it "judges the payload after
 -- dropping" (request 2)
@@ -63,23 +61,23 @@ said (suc (suc t)) s = ClosingWithLengths (closing_of s)
 -- "6; 7; 8": a frame of type t whose header check and stamp are right
 unfoldable pub read_body : ℕ → List ℕ → Read
 read_body t s =
-    refuse size_wrong when length_wrong t s otherwise
+    refuse SizeWrong when length_wrong t s otherwise
     refuse_payload (control t) s when check_wrong t s otherwise
-    refuse counts_impossible when counts_wrong t s otherwise
+    refuse CountsImpossible when counts_wrong t s otherwise
     said t s
 
 -- "4; 5": a frame of type t that has its least size
 unfoldable pub read_headed : ℕ → List ℕ → Read
 read_headed t s =
     refuse_header (control t) s when header_wrong (control t) s otherwise
-    refuse stamp_too_high when ltb last_stamp (stamp_of s) otherwise
+    refuse StampTooHigh when ltb last_stamp (stamp_of s) otherwise
     read_body t s
 
 -- "empty 1; 2; 3; too short 1": any octets
 unfoldable pub read_frame : List ℕ → Read
 read_frame s =
-    refuse too_short when eqb (length s) 0 otherwise
-    refuse type_two when eqb (type_of s) 2 otherwise
-    refuse type_unknown when ltb 3 (type_of s) otherwise
-    refuse too_short when ltb (length s) (least (type_of s)) otherwise
+    refuse TooShort when eqb (length s) 0 otherwise
+    refuse TypeTwo when eqb (type_of s) 2 otherwise
+    refuse TypeUnknown when ltb 3 (type_of s) otherwise
+    refuse TooShort when ltb (length s) (least (type_of s)) otherwise
     read_headed (type_of s) s

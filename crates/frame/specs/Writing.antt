@@ -1,18 +1,18 @@
 -- The frames that are written, and what writing answers and leaves (document 01, "Frame layouts" and "Writing a frame from given
 -- fields, without a sender: 5, 20, 8, 22, 12"). Assumes nothing.
-use Rattle.std.specs.Prelude.{ℕ, ◌+◌, ◌*◌, List, [], ◌∷◌, ◌++◌, length, ltb}
+use Rattle.std.specs.Prelude.{ℕ, ◌+◌, ◌*◌, List, [], ◌∷◌, ◌++◌, length, ltb, Ok, Err}
 use Rattle.units.specs.Limits.{most_payload, last_stamp}
-use Rattle.units.specs.Refusals.{refusing, stamp_too_high, counts_impossible, no_room, payload_too_long, lengths_wrong}
+use Rattle.units.specs.declared.refusals.Refusal.{Refusal}
 use Rattle.fields.specs.Choice.{◌when◌otherwise◌}
 use Rattle.fields.specs.Numbers.{octets}
 use Rattle.fields.specs.Runs.{front}
 use Rattle.checks.specs.Check.{header_check, payload_check}
 use Rattle.frame.specs.declared.ClosingPdu.{ClosingPdu}
-use Rattle.frame.specs.declared.Written.{Written}
-use Rattle.frame.specs.declared.Written.TheVariants.{Done, Refused}
+use Rattle.frame.specs.Answers.{Written}
 use Rattle.frame.specs.Sizes.{data_head, closing_size, lengths_head}
 use Rattle.frame.specs.Layout.{filled}
 use Rattle.frame.specs.Counts.{data_wrong, given_wrong, list_wrong}
+use Rattle.units.specs.declared.refusals.Refusal.TheVariants.{CountsImpossible, LengthsWrong, NoRoom, PayloadTooLong, StampTooHigh}
 
 -- "type octet (1), Time Stamp (2), Packet Number (2), Elapsed Octet Counter (4)"; the spare bits are "written zero"
 abbrev pub control_part : ℕ → ℕ → ℕ → ℕ → List ℕ
@@ -45,37 +45,37 @@ packed (a ∷ b ∷ ls) = octets 3 (a * 4096 + b) ++ packed ls
 unfoldable pub lengths_frame : ClosingPdu → List ℕ → List ℕ
 lengths_frame c ls = sealed (closing_control 3 c) (packed ls)
 
--- the refusal with a number
-abbrev pub refuse_write : ℕ → Written
-refuse_write n = Refused (refusing n)
+-- a refusal
+abbrev pub refuse_write : Refusal → Written
+refuse_write r = Err r
 
 -- "5, 20, 8, 12": a data PDU with a payload of l octets, into room octets
 unfoldable pub write_data : ℕ → ℕ → ℕ → ℕ → ℕ → Written
 write_data stamp n e l room =
-    refuse_write stamp_too_high when ltb last_stamp stamp otherwise
-    refuse_write payload_too_long when ltb most_payload l otherwise
-    refuse_write counts_impossible when data_wrong n e otherwise
-    refuse_write no_room when ltb room (data_head + l) otherwise
-    Done (data_head + l)
+    refuse_write StampTooHigh when ltb last_stamp stamp otherwise
+    refuse_write PayloadTooLong when ltb most_payload l otherwise
+    refuse_write CountsImpossible when data_wrong n e otherwise
+    refuse_write NoRoom when ltb room (data_head + l) otherwise
+    Ok (data_head + l)
 
 -- "5, 8, 12": a closing PDU of Type 0
 unfoldable pub write_closing : ClosingPdu → ℕ → Written
 write_closing c room =
-    refuse_write stamp_too_high when ltb last_stamp c.stamp otherwise
-    refuse_write counts_impossible when given_wrong c otherwise
-    refuse_write no_room when ltb room closing_size otherwise
-    Done closing_size
+    refuse_write StampTooHigh when ltb last_stamp c.stamp otherwise
+    refuse_write CountsImpossible when given_wrong c otherwise
+    refuse_write NoRoom when ltb room closing_size otherwise
+    Ok closing_size
 
 -- "5, 8, 22, 12": a closing PDU of Type 3
 unfoldable pub write_lengths : ClosingPdu → List ℕ → ℕ → Written
 write_lengths c ls room =
-    refuse_write stamp_too_high when ltb last_stamp c.stamp otherwise
-    refuse_write counts_impossible when given_wrong c otherwise
-    refuse_write lengths_wrong when list_wrong ls c.number.0 c.elapsed.0 otherwise
-    refuse_write no_room when ltb room (lengths_head + filled (length ls)) otherwise
-    Done (lengths_head + filled (length ls))
+    refuse_write StampTooHigh when ltb last_stamp c.stamp otherwise
+    refuse_write CountsImpossible when given_wrong c otherwise
+    refuse_write LengthsWrong when list_wrong ls c.number.0 c.elapsed.0 otherwise
+    refuse_write NoRoom when ltb room (lengths_head + filled (length ls)) otherwise
+    Ok (lengths_head + filled (length ls))
 
 -- what lent memory holds after: the frame in front, and behind it what stood there; or, refused, what it held
 unfoldable pub after : Written → List ℕ → List ℕ → List ℕ
-after (Done n) frame old = front old frame
-after (Refused r) frame old = old
+after (Ok n) frame old = front old frame
+after (Err r) frame old = old

@@ -1,7 +1,8 @@
 -- A record before a frame is taken: what is known of it once its lists match and it is not damaged, and how the answers of the stages
 -- are those of the whole. Assumes nothing.
 use Prim.Native.Nat.{ℕ, ◌≤◌, ◌<◌}
-use mathlib.Core.Path.{◌≡◌, refl, ap}
+use mathlib.Core.Path.{◌≡◌, refl, ap, ◌∙◌}
+use mathlib.Core.Logic.{◌⊎◌, ⊎_elim}
 use mathlib.Core.Bool.{true, false}
 use mathlib.Core.List.{List}
 use native.Mathlib.Omega.{arith}
@@ -9,21 +10,21 @@ use lib.Dec.{ltb}
 use lib.ListN.{length, replicate, get_or-eq_default}
 use borrow.Author.Tests.{not-false, lt-ltb, le-ltb}
 use Rattle.units.specs.Limits.{last_stamp}
-use Rattle.units.specs.Refusals.{stamp_too_high, record_damaged, capacities_differ}
 use Rattle.fields.proofs.Tests.{or_false}
 use Rattle.frame.specs.declared.ClosingPdu.{ClosingPdu}
 use Rattle.frame.specs.declared.DataPdu.{DataPdu}
 use Rattle.frame.specs.declared.Read.{Read}
 use Rattle.frame.specs.declared.Read.TheVariants.{Closing, Data, ClosingWithLengths, Refused as NotRead}
 use Rattle.frame.specs.Reading.{read_frame}
-use Rattle.units.specs.declared.Refusal.{Refusal}
-use Rattle.reception.specs.declared.Taken.TheVariants.{Done, Refused}
-use Rattle.reception.specs.declared.Taking.{Taking}
+use Rattle.units.specs.declared.refusals.Refusal.{Refusal}
+use Rattle.reception.specs.Answers.{Taking}
 use Rattle.reception.specs.Sendings.{Held}
 use Rattle.reception.specs.Walk.{is_explained}
 use Rattle.reception.specs.Damage.{closing_off, places_wrong, walk_fails, damaged_record}
 use Rattle.reception.specs.Neighbours.{NoneBefore, NoneFrom}
 use Rattle.reception.specs.Hearing.{Kept, Outcome, refuses, takes, lists_differ, unmatched, damaged_kept, unused, open_head, empty_kept, fresh_record, data_pdu, hear_packet, hear_closing, hear_read, hear_frame, Takes}
+use Rattle.std.specs.Prelude.{Ok, Err}
+use Rattle.units.specs.declared.refusals.Refusal.TheVariants.{CapacitiesDiffer, RecordDamaged, StampTooHigh}
 
 -- a record that is not damaged is explained
 pub explained : (stamp : ℕ) (r : Held) → damaged_record stamp r ≡ false → is_explained r ≡ true
@@ -48,12 +49,12 @@ same_outcome e p = rw e p
 -- a fresh record, in the order of its refusals
 module _ (bearer period stamp : ℕ) (marks elapsed sizes : List ℕ) where
   pub fresh_unmatched : lists_differ (length marks) (length elapsed) (length sizes) ≡ true
-      → fresh_record bearer period stamp marks elapsed sizes ≡ refuses (unused marks elapsed sizes) capacities_differ
+      → fresh_record bearer period stamp marks elapsed sizes ≡ refuses (unused marks elapsed sizes) CapacitiesDiffer
   unfolding fresh_record
   fresh_unmatched h = rw h refl
 
   module _ (m : lists_differ (length marks) (length elapsed) (length sizes) ≡ false) where
-    pub fresh_high : last_stamp < stamp → fresh_record bearer period stamp marks elapsed sizes ≡ refuses (unused marks elapsed sizes) stamp_too_high
+    pub fresh_high : last_stamp < stamp → fresh_record bearer period stamp marks elapsed sizes ≡ refuses (unused marks elapsed sizes) StampTooHigh
     unfolding fresh_record
     fresh_high h = rw (m, lt-ltb last_stamp stamp h) refl
 
@@ -63,7 +64,7 @@ module _ (bearer period stamp : ℕ) (marks elapsed sizes : List ℕ) where
 
 -- what a frame was read as, where the record is damaged and where it is not
 module _ (k : Kept) (bearer period : ℕ) where
-  pub packet_damaged : (d : DataPdu) → damaged_kept k ≡ true → hear_read k bearer period (Data d) ≡ refuses k record_damaged
+  pub packet_damaged : (d : DataPdu) → damaged_kept k ≡ true → hear_read k bearer period (Data d) ≡ refuses k RecordDamaged
   unfolding hear_read
   packet_damaged d h = rw h refl
 
@@ -76,7 +77,7 @@ module _ (k : Kept) (bearer period : ℕ) where
       → hear_packet k bearer period d ≡ hear_packet k bearer period (data_pdu d.stamp d.number.0 d.elapsed.0 l)
   packet_with d l e = ap (λ (x : ℕ). hear_packet k bearer period (data_pdu d.stamp d.number.0 d.elapsed.0 x)) e
 
-  pub closing_damaged : (c : ClosingPdu) → damaged_kept k ≡ true → hear_read k bearer period (Closing c) ≡ refuses k record_damaged
+  pub closing_damaged : (c : ClosingPdu) → damaged_kept k ≡ true → hear_read k bearer period (Closing c) ≡ refuses k RecordDamaged
   unfolding hear_read
   closing_damaged c h = rw h refl
 
@@ -85,7 +86,7 @@ module _ (k : Kept) (bearer period : ℕ) where
   closing_judged c h = rw h refl
 
   -- any octets
-  pub frame_unmatched : (frame : List ℕ) → unmatched k ≡ true → hear_frame k bearer period frame ≡ refuses k capacities_differ
+  pub frame_unmatched : (frame : List ℕ) → unmatched k ≡ true → hear_frame k bearer period frame ≡ refuses k CapacitiesDiffer
   unfolding hear_frame
   frame_unmatched frame h = rw h refl
 
@@ -95,13 +96,13 @@ module _ (k : Kept) (bearer period : ℕ) where
 
 -- an empty record
 pub empty_as : (bearer period stamp n : ℕ) {t : Outcome} {r : Taking} {marks elapsed sizes : List ℕ} → t ≡ takes (empty_kept bearer period stamp n)
-    → r ≡ record { answer = Done; head = open_head bearer period stamp } → marks ≡ replicate n 0 → elapsed ≡ replicate n 0 → sizes ≡ replicate n 0
+    → r ≡ record { answer = Ok tt; head = open_head bearer period stamp } → marks ≡ replicate n 0 → elapsed ≡ replicate n 0 → sizes ≡ replicate n 0
     → Takes t r marks elapsed sizes
 empty_as bearer period stamp n e q m l s = record { says = rw (e, q) refl; leaves = rw (e, q, m, l, s) refl }
 
 -- a frame that was not read
 pub unread : (k : Kept) (bearer period : ℕ) (x : Refusal)
-    → Takes (hear_read k bearer period (NotRead x)) (record { answer = Refused x; head = k.head }) k.marks k.elapsed k.sizes
+    → Takes (hear_read k bearer period (NotRead x)) (record { answer = Err x; head = k.head }) k.marks k.elapsed k.sizes
 unfolding hear_read
 unread k bearer period x = record { says = refl; leaves = refl }
 
@@ -109,3 +110,10 @@ unread k bearer period x = record { says = refl; leaves = refl }
 pub closing_only : (k : Kept) (bearer period : ℕ) (c : ClosingPdu) → hear_read k bearer period (ClosingWithLengths c) ≡ hear_read k bearer period (Closing c)
 unfolding hear_read
 closing_only k bearer period c = refl
+
+-- so a frame that was read as either is heard as the closing
+pub closing_heard : (k : Kept) (bearer period : ℕ) (frame : List ℕ) (x : Read) (c : ClosingPdu) → unmatched k ≡ false → read_frame frame ≡ x
+    → (x ≡ Closing c) ⊎ (x ≡ ClosingWithLengths c) → hear_frame k bearer period frame ≡ hear_read k bearer period (Closing c)
+closing_heard k bearer period frame x c h r =
+    ⊎_elim (λ (e : x ≡ Closing c). frame_read k bearer period frame _ h (r ∙ e))
+    (λ (e : x ≡ ClosingWithLengths c). frame_read k bearer period frame _ h (r ∙ e) ∙ closing_only k bearer period c)

@@ -66,11 +66,6 @@ pub record Down (first : ℕ) (marks elapsed sizes : List ℕ) (k j : ℕ) : Typ
   pub number_same : (h : Head) → end_to (held_in h marks elapsed sizes) k ≡ end_to (held_in h marks elapsed sizes) j
   pub octets_same : (h : Head) → octets_to (held_in h marks elapsed sizes) k ≡ octets_to (held_in h marks elapsed sizes) j
 
-pub down_start : (first : ℕ) (marks elapsed sizes : List ℕ) (k : ℕ) → NoneBefore marks first → k ≤ length marks
-    → Down first marks elapsed sizes k k
-down_start first marks elapsed sizes k o le =
-    record { here = omega arith; room = le; none = o; number_same = λ _. refl; octets_same = λ _. refl }
-
 module _ (first : ℕ) (marks elapsed sizes : List ℕ) (k j : ℕ) (d : Down first marks elapsed sizes k j) where
   pub down_none : j ≤ first → EndBelow marks elapsed sizes k 0 0
   down_none le =
@@ -83,10 +78,10 @@ module _ (first : ℕ) (marks elapsed sizes : List ℕ) (k j : ℕ) (d : Down fi
     one_more : j ≡ suc (j - 1)
     one_more = omega arith
 
-    pub down_found : get_or marks (j - 1) 0 ≡ 1 → (e l : ℕ) → e ≡ get_or elapsed (j - 1) 0 → l ≡ get_or sizes (j - 1) 0 → EndBelow marks elapsed sizes k j (e + l)
+    pub down_found : get_or marks (j - 1) 0 ≡ 1 → (e l : ℕ) → e ≡ get_or elapsed (j - 1) 0 → l ≡ get_or sizes (j - 1) 0 → EndBelow marks elapsed sizes k (j - 1 + 1) (e + l)
     down_found t e l el ll =
         record {
-          number_is = λ h. sym (d.number_same h ∙ ap (end_to (held_in h marks elapsed sizes)) one_more ∙ (end_heard (held_in h marks elapsed sizes) (j - 1) (eq-eqb _ _ t)).0 ∙ sym one_more);
+          number_is = λ h. sym (d.number_same h ∙ ap (end_to (held_in h marks elapsed sizes)) one_more ∙ (end_heard (held_in h marks elapsed sizes) (j - 1) (eq-eqb _ _ t)).0 ∙ sym (add-one (j - 1)));
           octets_are = λ h.
               rw (el, ll) (sym (d.octets_same h ∙ ap (octets_to (held_in h marks elapsed sizes)) one_more ∙ (end_heard (held_in h marks elapsed sizes) (j - 1) (eq-eqb _ _ t)).1));
         }
@@ -107,9 +102,6 @@ pub record Up (r : Held) (end k i a j : ℕ) : Type 0 where
   pub none : (m : ℕ) → end ≤ m → r.mark m ≡ 1 → ⊥
   pub after : i ≤ j
   pub same : next_fits r (r.capacity - k) k i a ≡ next_fits r (r.capacity - j) j i a
-
-pub up_start : (h : Head) (marks elapsed sizes : List ℕ) (end k i a : ℕ) → NoneFrom marks end → i ≤ k → Up (held_in h marks elapsed sizes) end k i a k
-up_start h marks elapsed sizes end k i a o le = record { limit = o.inside; none = o.none; after = le; same = refl }
 
 module _ (r : Held) (end k i a j : ℕ) (u : Up r end k i a j) where
   module _ (lt : j < end) where

@@ -1,28 +1,27 @@
 -- Nothing was heard outside of the span after a packet was taken, or was not. Assumes nothing.
-use Prim.Native.Nat.{ℕ, ◌+◌, ◌≤◌, ◌<◌}
-use mathlib.Core.Path.{◌≡◌, refl, sym, ap, ◌∙◌}
-use mathlib.Core.Logic.{◌⊎◌, ⊎_elim}
+use Prim.Native.Nat.{ℕ, ◌<◌}
+use mathlib.Core.Path.{◌≡◌, sym, ap, ◌∙◌}
+use mathlib.Core.Logic.{⊎_elim}
 use mathlib.Core.Bool.{true, false}
 use mathlib.Core.List.{List}
 use native.Mathlib.Omega.{arith}
 use lib.Dec.{leb}
 use lib.ListN.{length, set, length-set}
 use lib.Seq.{get_or-set_other}
-use borrow.Author.Tests.{ne_eqb, leb-true, leb-false}
+use borrow.Author.Tests.{leb-true, leb-false}
 use Rattle.fields.proofs.Tests.{either}
-use Rattle.units.specs.Refusals.{refusing}
 use Rattle.frame.specs.declared.DataPdu.{DataPdu}
-use Rattle.reception.specs.declared.Head.{Head}
-use Rattle.reception.specs.declared.Taken.TheVariants.{Done, Refused}
-use Rattle.reception.specs.declared.Taking.{Taking}
+use Rattle.reception.specs.Answers.{Taking}
 use Rattle.reception.specs.Adding.{packet_contradicts}
-use Rattle.reception.specs.Hearing.{Kept, held_by, Outcome, refuses, takes, other_key, keep_packet, hear_packet, taken_of, Takes}
+use Rattle.reception.specs.Hearing.{Kept, held_by, Outcome, refuses, takes, other_key, keep_packet, hear_packet, Takes}
 use Rattle.reception.specs.Neighbours.{NoneBefore, NoneFrom}
 use Rattle.reception.proofs.OnePaper.{taken_known}
 use Rattle.hearing.proofs.Answered.{packet_other, packet_beyond, packet_off_fact, packet_taken}
 use Rattle.hearing.specs.declared.contradicting.Span.{Span}
 use Rattle.hearing.specs.declared.following.Following.{Following}
 use Rattle.hearing.specs.Following.{with_place, span_after, followed, Follows}
+use Rattle.std.specs.Prelude.{Ok, Err}
+use Rattle.units.specs.declared.refusals.Refusal.{Refusal}
 
 -- a mark set at place k
 pub wider_before : (marks : List ℕ) (s : Span) (k : ℕ) → NoneBefore marks s.first → NoneBefore (set marks k 1) (with_place s k).first
@@ -45,7 +44,7 @@ wider_from marks s k lt o =
 -- a data PDU is taken, or leaves the record as it was
 data PacketDone (k : Kept) (d : DataPdu) (t : Outcome) : Type 0 where
   taken : d.number.0 < length k.marks → t ≡ takes (keep_packet k d.number.0 d.elapsed.0 d.length.0) → PacketDone k d t
-  refused : (n : ℕ) → t ≡ refuses k n → PacketDone k d t
+  refused : (n : Refusal) → t ≡ refuses k n → PacketDone k d t
 
 packet_done : (k : Kept) (bearer period : ℕ) (d : DataPdu) → PacketDone k d (hear_packet k bearer period d)
 packet_done k bearer period d =
@@ -66,11 +65,11 @@ span_right : (k : Kept) (d : DataPdu) (u : Outcome) (t : Taking) (marks elapsed 
     → Takes u t marks elapsed sizes → NoneBefore k.marks s.first → NoneFrom k.marks s.end
     → NoneBefore marks (span_after t.answer s d.number.0).first × NoneFrom marks (span_after t.answer s d.number.0).end
 span_right k d u t marks elapsed sizes s (taken lt e) p o f =
-    let a = taken_known t.answer Done (rw e at p.says) in
+    let a = taken_known t.answer (Ok tt) (rw e at p.says) in
     let m : marks ≡ set k.marks d.number.0 1 = ap (λ (x : Kept). x.marks) (rw e at p.leaves) in
     rw (a, m) (wider_before k.marks s d.number.0 o, wider_from k.marks s d.number.0 lt f)
 span_right k d u t marks elapsed sizes s (refused n e) p o f =
-    let a = taken_known t.answer (Refused (refusing n)) (rw e at p.says) in
+    let a = taken_known t.answer (Err n) (rw e at p.says) in
     let m : marks ≡ k.marks = ap (λ (x : Kept). x.marks) (rw e at p.leaves) in
     rw (a, m) (o, f)
 
@@ -80,15 +79,6 @@ pub follows_packet : (k : Kept) (bearer period : ℕ) (d : DataPdu) (t : Taking)
 follows_packet k bearer period d t marks elapsed sizes s p o f =
     let q = span_right k d _ t marks elapsed sizes s (packet_done k bearer period d) p o f in
     record { taken = p; before = q.0; from_end = q.1 }
-
--- the answer about a packet and the span, by its number
-pub follow_done : (h : Head) (s : Span) (k n a b : ℕ) → n ≡ 0 → a ≡ (with_place s k).first → b ≡ (with_place s k).end
-    → record { answer = Done; head = h; span = record { first = a; end = b } } ≡ followed (record { answer = taken_of n; head = h }) s k
-follow_done h s k n a b e p q = rw (e, p, q) refl
-
-pub follow_refused : (h : Head) (s : Span) (k n : ℕ) → (n ≡ 0 → ⊥)
-    → record { answer = Refused (refusing n); head = h; span = s } ≡ followed (record { answer = taken_of n; head = h }) s k
-follow_refused h s k n ne = rw (ne_eqb n 0 ne) refl
 
 -- where the lists stay as they are, so does the span
 pub follows_still : (u : Outcome) (t : Taking) (marks elapsed sizes : List ℕ) (s : Span) → Takes u t marks elapsed sizes → NoneBefore marks s.first

@@ -1,9 +1,7 @@
 -- What goes on beside a record that is known to be undamaged: the places in which packets were heard, kept up frame by frame, and what
 -- hearing the next frame promises. Assumes nothing.
-use Rattle.std.specs.Prelude.{ℕ, ◌+◌, ◌≤◌, ◌<◌, min, max, ◌≡◌, ◌⊎◌, List, length, get_or}
-use Rattle.reception.specs.declared.Taken.{Taken}
-use Rattle.reception.specs.declared.Taken.TheVariants.{Done, Refused}
-use Rattle.reception.specs.declared.Taking.{Taking}
+use Rattle.std.specs.Prelude.{ℕ, ◌+◌, ◌≤◌, ◌<◌, min, max, ◌≡◌, ◌⊎◌, List, length, get_or, Ok, Err}
+use Rattle.reception.specs.Answers.{Taken, Taking}
 use Rattle.reception.specs.Hearing.{Outcome, Takes}
 use Rattle.reception.specs.Neighbours.{NoneBefore, NoneFrom}
 use Rattle.hearing.specs.declared.contradicting.Span.{Span}
@@ -15,8 +13,8 @@ with_place s k = record { first = min k s.first; end = max (k + 1) s.end }
 
 -- a span changes only by a packet that is taken
 abbrev pub span_after : Taken → Span → ℕ → Span
-span_after Done s k = with_place s k
-span_after (Refused x) s k = s
+span_after (Ok u) s k = with_place s k
+span_after (Err x) s k = s
 
 -- an answer about packet k, and the span after it
 abbrev pub followed : Taking → Span → ℕ → Following

@@ -2,15 +2,18 @@
 // functions alone. What is kept beside the record makes the cost of a frame in order the same at every capacity.
 ghost use Rattle.std.specs.Prelude.{◌≡◌, false, ◌+◌, ◌<◌, min, max, length};
 ghost use Rattle.reception.specs.Damage.{Matched};
+ghost use Rattle.reception.specs.Lent.{kept};
 ghost use Rattle.reception.specs.Neighbours.{NoneBefore, NoneFrom};
-ghost use Rattle.reception.specs.Hearing.{kept_in, taken_of, damaged_kept, hear_packet, hear_closing, hear_frame};
+ghost use Rattle.reception.specs.Hearing.{kept_in, damaged_kept, hear_packet, hear_closing, hear_frame};
 ghost use Rattle.hearing.specs.Following.{followed, Follows};
 
 use crate::contradicting::Span;
+use crate::looking::Heard;
 use crate::taking::{take_closing, take_packet};
 use frame::sizes::DATA_HEAD;
 use frame::{ClosingPdu, DataPdu, Read};
-use reception::{Head, Taken};
+use reception::Head;
+use reception::record::Record;
 use units::Refusal;
 
 // The head of the record after a frame, the places in which packets were heard, and the answer. The answer stands last: so the head
@@ -19,7 +22,7 @@ use units::Refusal;
 pub struct Following {
     pub head: Head,
     pub span: Span,
-    pub answer: Taken,
+    pub answer: Result<(), Refusal>,
 }
 
 // The span of an empty record.
@@ -32,50 +35,22 @@ pub fn empty_span(capacity: usize) -> Span
     }
 }
 
-// The lower of two places.
-pub fn lower(a: usize, b: usize) -> usize
-    ensures { result ≡ min a b }
-{
-    if a < b {
-        return a;
-    }
-    b
-}
-
-// The end after place k.
-fn higher(k: usize, end: usize) -> usize
+// The answer about packet k, and the span after it.
+fn follow(h: Head, answer: Result<(), Refusal>, span: Span, k: usize) -> Following
     requires { k < 65536 }
-    ensures { result ≡ max (k + 1) end }
+    ensures { result ≡ followed (record { answer = answer; head = h }) span k }
 {
-    if end <= k {
-        return k + 1;
-    }
-    end
-}
-
-// The answer about packet k by its number, 0 or a refusal's, and the span after it.
-fn follow(h: Head, number: u8, span: Span, k: usize) -> Following
-    requires { k < 65536 }
-    ensures { result ≡ followed (record { answer = taken_of number; head = h }) span k }
-{
-    if number == 0 {
-        return Following {
-            answer: Taken::Done,
-            head: h,
-            span: Span {
-                first: lower(k, span.first),
-                end: higher(k, span.end),
-            },
-        };
-    }
+    let after = match answer {
+        Ok(_) => Span {
+            first: k.min(span.first),
+            end: (k + 1).max(span.end),
+        },
+        Err(_) => span,
+    };
     Following {
-        answer: Taken::Refused(Refusal {
-            number: number,
-            found: 0,
-            worked_out: 0,
-        }),
         head: h,
-        span: span,
+        span: after,
+        answer,
     }
 }
 
@@ -102,7 +77,7 @@ fn next_packet(
         result marks.new elapsed.new sizes.new }
 {
     let k = d.number.0 as usize;
-    let number = take_packet(
+    let answer = take_packet(
         h,
         span,
         marks,
@@ -115,35 +90,20 @@ fn next_packet(
         k,
         payload,
     );
-    follow(h, number, span, k)
+    follow(h, answer, span, k)
 }
 
 // A closing PDU.
-fn next_closing(
-    h: Head,
-    span: Span,
-    marks: &[u8],
-    elapsed: &[u32],
-    sizes: &[u16],
-    bearer: u32,
-    period: u32,
-    c: ClosingPdu,
-) -> Following
-    requires cases { Matched marks.now elapsed.now sizes.now }
-    requires none_before { NoneBefore marks.now span.first }
-    requires none_from { NoneFrom marks.now span.end }
-    requires sizes_value { damaged_kept (kept_in h marks.now elapsed.now sizes.now) ≡ false }
+fn next_closing(r: &Heard, bearer: u32, period: u32, c: ClosingPdu) -> Following
     ensures { Follows
-        (hear_closing (kept_in h marks.now elapsed.now sizes.now) bearer period c)
-        result marks.now elapsed.now sizes.now }
+        (hear_closing (kept r.now.inner) bearer period c)
+        result r.now.inner.marks.now r.now.inner.elapsed.now r.now.inner.sizes.now }
 {
-    let t = take_closing(h, span, marks, elapsed, sizes, bearer, period, c);
-    let head = t.head;
-    let answer = t.answer;
+    let t = take_closing(r, bearer, period, c);
     Following {
-        answer: answer,
-        head: head,
-        span: span,
+        head: t.head,
+        span: r.span,
+        answer: t.answer,
     }
 }
 
@@ -169,7 +129,7 @@ pub fn hear_next(
     let read = reader::read_frame(frame);
     match read {
         Read::Refused(r) => Following {
-            answer: Taken::Refused(r),
+            answer: Err(r),
             head: h,
             span: span,
         },
@@ -184,9 +144,22 @@ pub fn hear_next(
             d,
             &frame[DATA_HEAD..DATA_HEAD + d.length.0 as usize],
         ),
-        Read::Closing(c) => next_closing(h, span, marks, elapsed, sizes, bearer, period, c),
-        Read::ClosingWithLengths(c) => next_closing(
-            h, span, marks, elapsed, sizes, bearer, period, c,
-        ),
+        Read::Closing(c) | Read::ClosingWithLengths(c) => {
+            let record = Record {
+                head: h,
+                marks,
+                elapsed,
+                sizes,
+            };
+            next_closing(
+                &Heard {
+                    inner: record,
+                    span,
+                },
+                bearer,
+                period,
+                c,
+            )
+        }
     }
 }

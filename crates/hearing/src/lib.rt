@@ -9,15 +9,18 @@ pub mod taking;
 ghost use Rattle.std.specs.Prelude.{◌≡◌, ◌<◌, length};
 ghost use Rattle.frame.specs.declared.Read.TheVariants.{Data, Closing};
 ghost use Rattle.reception.specs.Damage.{Matched};
+ghost use Rattle.reception.specs.Lent.{kept};
 ghost use Rattle.reception.specs.Hearing.{kept_in, fresh_record, hear_read, hear_frame, Takes};
 
 use damage::lists_differ;
 use frame::sizes::DATA_HEAD;
 use frame::{ClosingPdu, DataPdu, Read};
-use reception::{Head, Taken, Taking};
-use taking::{answered, clear, open_head, refused, take_closing, take_packet, whole};
+use looking::Heard;
+use reception::record::Record;
+use reception::{Answered, Head};
+use taking::{clear, open_head, refused, take_closing, take_packet, whole};
+use units::Refusal;
 use units::limits::LAST_STAMP;
-use units::refusals::{CAPACITIES_DIFFER, RECORD_DAMAGED, STAMP_TOO_HIGH};
 
 // An empty record of a key, in three lists of one length.
 pub fn fresh(
@@ -27,20 +30,20 @@ pub fn fresh(
     marks: &mut [u8],
     elapsed: &mut [u32],
     sizes: &mut [u16],
-) -> Taking
+) -> Answered<Refusal>
     ensures { Takes
         (fresh_record bearer period stamp marks.old elapsed.old sizes.old)
         result marks.new elapsed.new sizes.new }
 {
     if lists_differ(marks.len(), elapsed.len(), sizes.len()) {
-        return refused(open_head(0, 0, 0), CAPACITIES_DIFFER);
+        return refused(open_head(0, 0, 0), Refusal::CapacitiesDiffer);
     }
     if LAST_STAMP < stamp as u64 {
-        return refused(open_head(0, 0, 0), STAMP_TOO_HIGH);
+        return refused(open_head(0, 0, 0), Refusal::StampTooHigh);
     }
     clear(marks, elapsed, sizes);
-    Taking {
-        answer: Taken::Done,
+    Answered {
+        answer: Ok(()),
         head: open_head(bearer, period, stamp),
     }
 }
@@ -55,7 +58,7 @@ fn hear_data(
     period: u32,
     d: DataPdu,
     payload: &[u8],
-) -> Taking
+) -> Answered<Refusal>
     requires cases { Matched marks.old elapsed.old sizes.old }
     requires elapsed_bound { (d.elapsed.0 < 4294967296) × (length payload.now < 65536) }
     requires length_value { d.length.0 ≡ length payload.now }
@@ -63,12 +66,18 @@ fn hear_data(
         (hear_read (kept_in h marks.old elapsed.old sizes.old) bearer period (Data d))
         result marks.new elapsed.new sizes.new }
 {
-    if damage::is_damaged(h, marks, elapsed, sizes) {
-        return refused(h, RECORD_DAMAGED);
+    let record = Record {
+        head: h,
+        marks,
+        elapsed,
+        sizes,
+    };
+    if damage::is_damaged(&record) {
+        return refused(h, Refusal::RecordDamaged);
     }
     let span = whole(marks.len());
     let k = d.number.0 as usize;
-    let number = take_packet(
+    let answer = take_packet(
         h,
         span,
         marks,
@@ -81,29 +90,20 @@ fn hear_data(
         k,
         payload,
     );
-    answered(h, number)
+    Answered { answer, head: h }
 }
 
-// A closing PDU, for any record of matching lists.
-fn hear_closing(
-    h: Head,
-    marks: &[u8],
-    elapsed: &[u32],
-    sizes: &[u16],
-    bearer: u32,
-    period: u32,
-    c: ClosingPdu,
-) -> Taking
-    requires { Matched marks.now elapsed.now sizes.now }
+// A closing PDU, for any record.
+fn hear_closing(r: &Record, bearer: u32, period: u32, c: ClosingPdu) -> Answered<Refusal>
     ensures { Takes
-        (hear_read (kept_in h marks.now elapsed.now sizes.now) bearer period (Closing c))
-        result marks.now elapsed.now sizes.now }
+        (hear_read (kept r.now) bearer period (Closing c))
+        result r.now.marks.now r.now.elapsed.now r.now.sizes.now }
 {
-    if damage::is_damaged(h, marks, elapsed, sizes) {
-        return refused(h, RECORD_DAMAGED);
+    if damage::is_damaged(r) {
+        return refused(r.head, Refusal::RecordDamaged);
     }
-    let span = whole(marks.len());
-    take_closing(h, span, marks, elapsed, sizes, bearer, period, c)
+    let span = whole(r.marks.len());
+    take_closing(&Heard { inner: *r, span }, bearer, period, c)
 }
 
 // Takes a frame into a record. The caller says which bearer and period it came in.
@@ -115,18 +115,18 @@ pub fn hear(
     bearer: u32,
     period: u32,
     frame: &[u8],
-) -> Taking
+) -> Answered<Refusal>
     ensures { Takes
         (hear_frame (kept_in h marks.old elapsed.old sizes.old) bearer period frame.now)
         result marks.new elapsed.new sizes.new }
 {
     if lists_differ(marks.len(), elapsed.len(), sizes.len()) {
-        return refused(h, CAPACITIES_DIFFER);
+        return refused(h, Refusal::CapacitiesDiffer);
     }
     let read = reader::read_frame(frame);
     match read {
-        Read::Refused(r) => Taking {
-            answer: Taken::Refused(r),
+        Read::Refused(r) => Answered {
+            answer: Err(r),
             head: h,
         },
         Read::Data(d) => hear_data(
@@ -139,7 +139,14 @@ pub fn hear(
             d,
             &frame[DATA_HEAD..DATA_HEAD + d.length.0 as usize],
         ),
-        Read::Closing(c) => hear_closing(h, marks, elapsed, sizes, bearer, period, c),
-        Read::ClosingWithLengths(c) => hear_closing(h, marks, elapsed, sizes, bearer, period, c),
+        Read::Closing(c) | Read::ClosingWithLengths(c) => {
+            let record = Record {
+                head: h,
+                marks,
+                elapsed,
+                sizes,
+            };
+            hear_closing(&record, bearer, period, c)
+        }
     }
 }

@@ -1,14 +1,24 @@
-// What was heard next to a packet number: the last packet before it and the first after it, not looked for where
-// nothing was heard.
-ghost use Rattle.std.specs.Prelude.{◌≡◌, ◌-◌, ◌≤◌, length};
-ghost use Rattle.reception.specs.Sendings.{held_in};
-ghost use Rattle.reception.specs.Damage.{Matched};
+// A record beside the places in which packets were heard, and what was heard next to a packet number: the last packet before it and
+// the first after it, not looked for where nothing was heard.
+ghost use Rattle.std.specs.Prelude.{◌≡◌, true, ◌-◌, ◌≤◌, length};
+ghost use Rattle.reception.specs.Lent.{held};
+ghost use Rattle.reception.specs.Walk.{is_explained};
 ghost use Rattle.reception.specs.Neighbours.{EndBelow, NoneBefore, NoneFrom, next_fits};
 
+use crate::contradicting::Span;
 use damage::{is_fit, may_end};
-use fields::widths::{from_u16, from_u32};
-use reception::Head;
+use reception::record::Record;
 use units::{Octets, Packets};
+
+// A record that some sending explains, and the span in which its packets were heard.
+#[derive(Clone, Copy)]
+pub struct Heard<'a> {
+    pub inner: Record<'a>,
+    pub span: Span,
+    pub ghost none_before: { NoneBefore inner.marks.now span.first },
+    pub ghost none_from: { NoneFrom inner.marks.now span.end },
+    pub ghost explained: { is_explained (held inner) ≡ true },
+}
 
 // Where packets end: the number after them, and the octets before it.
 #[derive(Clone, Copy)]
@@ -17,55 +27,40 @@ pub struct End {
     pub octets: Octets,
 }
 
-// The end of the last packet heard below k.
-pub fn end_below(first: usize, marks: &[u8], elapsed: &[u32], sizes: &[u16], k: usize) -> End
-    requires cases { Matched marks.now elapsed.now sizes.now }
-    requires none_before { NoneBefore marks.now first }
-    requires k_in_bounds { k ≤ length marks.now }
-    ensures { EndBelow marks.now elapsed.now sizes.now k result.number.0 result.octets.0 }
-{
-    let mut j = k;
-    while first < j {
-        if marks[j - 1] == 1 {
-            let e = from_u32(elapsed[j - 1]);
-            let l = from_u16(sizes[j - 1]);
-            return End {
-                number: Packets(j as u32),
-                octets: Octets(e + l),
-            };
+impl Heard<'_> {
+    // The end of the last packet heard below k.
+    pub fn end_below(&self, k: usize) -> End
+        requires { k ≤ length self.now.inner.marks.now }
+        ensures { EndBelow self.now.inner.marks.now self.now.inner.elapsed.now self.now.inner.sizes.now k result.number.0 result.octets.0 }
+    {
+        let r = self.inner;
+        for j in (self.span.first..k).rev() {
+            if r.marks[j] == 1 {
+                return End {
+                    number: Packets(j as u32 + 1),
+                    octets: Octets(u64::from(r.elapsed[j]) + u64::from(r.sizes[j])),
+                };
+            }
         }
-        j -= 1;
+        End {
+            number: Packets(0),
+            octets: Octets(0),
+        }
     }
-    End {
-        number: Packets(0),
-        octets: Octets(0),
-    }
-}
 
-// Whether the next packet heard from k on, or else the closing, can come after packets that end before number i, at a octets.
-pub fn next_fits(
-    h: Head,
-    end: usize,
-    marks: &[u8],
-    elapsed: &[u32],
-    sizes: &[u16],
-    k: usize,
-    i: Packets,
-    a: Octets,
-) -> bool
-    requires cases { Matched marks.now elapsed.now sizes.now }
-    requires none_from { NoneFrom marks.now end }
-    requires k_in_bounds { (k ≤ length marks.now) × (i.0 ≤ k) }
-    ensures { result ≡ next_fits (held_in h marks.now elapsed.now sizes.now) (length marks.now - k) k i.0 a.0 }
-{
-    let mut j = k;
-    while j < end {
-        if marks[j] == 1 {
-            let e = from_u32(elapsed[j]);
-            let l = from_u16(sizes[j]);
-            return is_fit(i, a, Packets(j as u32), Octets(e), Octets(l));
+    // Whether the next packet heard from k on, or else the closing, can come after packets that end before number i, at a octets.
+    pub fn next_fits(&self, k: usize, i: Packets, a: Octets) -> bool
+        requires { (k ≤ length self.now.inner.marks.now) × (i.0 ≤ k) }
+        ensures { result ≡ next_fits (held self.now.inner) (length self.now.inner.marks.now - k) k i.0 a.0 }
+    {
+        let r = self.inner;
+        for j in k..self.span.end {
+            if r.marks[j] == 1 {
+                let e = Octets(u64::from(r.elapsed[j]));
+                let l = Octets(u64::from(r.sizes[j]));
+                return is_fit(i, a, Packets(j as u32), e, l);
+            }
         }
-        j += 1;
+        may_end(r.head, i, a)
     }
-    may_end(h, i, a)
 }

@@ -10,21 +10,22 @@ use native.Mathlib.Omega.{arith}
 use Rattle.fields.proofs.Choosing.{tested}
 use Rattle.units.specs.Limits.{last_stamp}
 use Rattle.fields.specs.Numbers.{le}
-use Rattle.items.specs.declared.Item.{Item}
-use Rattle.items.specs.declared.Item.TheVariants.{Begins, Frame, Wrong, Cut}
-use Rattle.items.specs.Items.{body_length, kind, key_of, most_body, beginning, framed, item_of}
+use Rattle.std.specs.Prelude.{Ok, Err}
+use Rattle.items.specs.declared.Item.TheVariants.{Begins, Frame}
+use Rattle.items.specs.declared.NoItem.TheVariants.{Wrong, Cut}
+use Rattle.items.specs.Items.{Found, body_length, kind, key_of, most_body, beginning, framed, item_of}
 
 -- what the octets s are when the item in front of them is so
-pub data Reads (s : List ℕ) : Item → Type 0 where
-  no_head_fact : length s < 4 → Reads s Cut
-  other_kind : 4 ≤ length s → (kind s ≡ 1 → ⊥) → (kind s ≡ 2 → ⊥) → Reads s Wrong
-  other_length : 4 ≤ length s → kind s ≡ 1 → (body_length s ≡ 10 → ⊥) → Reads s Wrong
-  key_cut : 4 ≤ length s → kind s ≡ 1 → body_length s ≡ 10 → length s < 14 → Reads s Cut
-  late_stamp : kind s ≡ 1 → body_length s ≡ 10 → 14 ≤ length s → last_stamp < le 2 s 12 → Reads s Wrong
-  key : kind s ≡ 1 → body_length s ≡ 10 → 14 ≤ length s → le 2 s 12 ≤ last_stamp → Reads s (Begins (key_of s))
-  too_long : 4 ≤ length s → kind s ≡ 2 → most_body < body_length s → Reads s Wrong
-  frame_cut : 4 ≤ length s → kind s ≡ 2 → body_length s ≤ most_body → length s < 4 + body_length s → Reads s Cut
-  frame : kind s ≡ 2 → body_length s ≤ most_body → 4 + body_length s ≤ length s → Reads s (Frame (body_length s))
+pub data Reads (s : List ℕ) : Found → Type 0 where
+  no_head_fact : length s < 4 → Reads s (Err Cut)
+  other_kind : 4 ≤ length s → (kind s ≡ 1 → ⊥) → (kind s ≡ 2 → ⊥) → Reads s (Err Wrong)
+  other_length : 4 ≤ length s → kind s ≡ 1 → (body_length s ≡ 10 → ⊥) → Reads s (Err Wrong)
+  key_cut : 4 ≤ length s → kind s ≡ 1 → body_length s ≡ 10 → length s < 14 → Reads s (Err Cut)
+  late_stamp : kind s ≡ 1 → body_length s ≡ 10 → 14 ≤ length s → last_stamp < le 2 s 12 → Reads s (Err Wrong)
+  key : kind s ≡ 1 → body_length s ≡ 10 → 14 ≤ length s → le 2 s 12 ≤ last_stamp → Reads s (Ok (Begins (key_of s)))
+  too_long : 4 ≤ length s → kind s ≡ 2 → most_body < body_length s → Reads s (Err Wrong)
+  frame_cut : 4 ≤ length s → kind s ≡ 2 → body_length s ≤ most_body → length s < 4 + body_length s → Reads s (Err Cut)
+  frame : kind s ≡ 2 → body_length s ≤ most_body → 4 + body_length s ≤ length s → Reads s (Ok (Frame (body_length s)))
 
 reads_key : (s : List ℕ) → 4 ≤ length s → kind s ≡ 1 → Reads s (beginning s)
 unfolding beginning
@@ -60,7 +61,7 @@ reads s =
     (λ v. other_kind h (eqb-false (kind s) 1 u) (eqb-false (kind s) 2 v))))
 
 -- and only one
-pub read_as : {s : List ℕ} {i : Item} → Reads s i → i ≡ item_of s
+pub read_as : {s : List ℕ} {i : Found} → Reads s i → i ≡ item_of s
 unfolding item_of beginning framed
 read_as {s} (no_head_fact h) = simp (lt-ltb (length s) 4 h)
 read_as {s} (other_kind h a b) = simp (le-ltb (length s) 4 h, ne_eqb (kind s) 1 a, ne_eqb (kind s) 2 b)
@@ -74,11 +75,11 @@ read_as {s} (frame k b l) =
     simp (le-ltb (length s) 4 (omega arith), k, le-ltb most_body (body_length s) b, le-ltb (length s) (4 + body_length s) l)
 
 -- the numbers of a key, as they were read
-pub key_as : {s : List ℕ} {b p t : ℕ} → b ≡ le 4 s 4 → p ≡ le 4 s 8 → t ≡ le 2 s 12 → Reads s (Begins (key_of s))
-    → Begins (record { bearer = b; period = p; stamp = t }) ≡ item_of s
+pub key_as : {s : List ℕ} {b p t : ℕ} → b ≡ le 4 s 4 → p ≡ le 4 s 8 → t ≡ le 2 s 12 → Reads s (Ok (Begins (key_of s)))
+    → Ok (Begins (record { bearer = b; period = p; stamp = t })) ≡ item_of s
 unfolding key_of
 key_as eb ep et r = rw (eb, ep, et) (read_as r)
 
 -- the length of a frame, as it was read
-pub frame_as : {s : List ℕ} {n : ℕ} → n ≡ body_length s → Reads s (Frame (body_length s)) → Frame n ≡ item_of s
+pub frame_as : {s : List ℕ} {n : ℕ} → n ≡ body_length s → Reads s (Ok (Frame (body_length s))) → Ok (Frame n) ≡ item_of s
 frame_as e r = rw e (read_as r)

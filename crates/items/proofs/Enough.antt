@@ -8,9 +8,10 @@ use Rattle.units.specs.Limits.{last_stamp}
 use Rattle.fields.specs.Numbers.{le}
 use Rattle.fields.proofs.LittleEndian.{le_append, le_below}
 use Rattle.items.specs.declared.Key.{Key}
-use Rattle.items.specs.declared.Item.{Item}
-use Rattle.items.specs.declared.Item.TheVariants.{Begins, Frame, Wrong, Cut}
-use Rattle.items.specs.Items.{body_length, kind, key_of, most_body, longest_item, item_of, size_of}
+use Rattle.std.specs.Prelude.{Ok, Err}
+use Rattle.items.specs.declared.Item.TheVariants.{Begins, Frame}
+use Rattle.items.specs.declared.NoItem.TheVariants.{Wrong, Cut}
+use Rattle.items.specs.Items.{Found, body_length, kind, key_of, most_body, longest_item, item_of, size_of}
 use Rattle.items.proofs.Cases.{Reads, no_head_fact, other_kind, other_length, key_cut, late_stamp, key, too_long, frame_cut, frame, reads, read_as}
 
 -- numbers of 32 bits, where the octets are octets
@@ -18,13 +19,13 @@ abbrev Wide : List ℕ → Key → Type 0
 Wide s k = ((i : ℕ) → get_or s i 0 < 256) → (k.bearer < 2 ^ 32) × (k.period < 2 ^ 32)
 
 -- what holds of the octets in front of which an item was read
-abbrev Held : List ℕ → Item → Type 0
-Held s (Begins k) = (14 ≤ length s) × (k.stamp ≤ last_stamp) × Wide s k
-Held s (Frame n) = (n ≤ most_body) × (4 + n ≤ length s)
-Held s Wrong = Unit {0}
-Held s Cut = length s < longest_item
+abbrev Held : List ℕ → Found → Type 0
+Held s (Ok (Begins k)) = (14 ≤ length s) × (k.stamp ≤ last_stamp) × Wide s k
+Held s (Ok (Frame n)) = (n ≤ most_body) × (4 + n ≤ length s)
+Held s (Err Wrong) = Unit {0}
+Held s (Err Cut) = length s < longest_item
 
-held : {s : List ℕ} {i : Item} → Reads s i → Held s i
+held : {s : List ℕ} {i : Found} → Reads s i → Held s i
 unfolding key_of
 held (no_head_fact h) = omega arith
 held (other_kind h a b) = tt
@@ -36,32 +37,32 @@ held (too_long h k b) = tt
 held (frame_cut h k b l) = omega arith
 held (frame k b l) = (b, l)
 
-held_as : (s : List ℕ) (i : Item) → item_of s ≡ i → Held s i
-held_as s i e = subst (λ (j : Item). Held s j) e (held (reads s))
+held_as : (s : List ℕ) (i : Found) → item_of s ≡ i → Held s i
+held_as s i e = subst (λ (j : Found). Held s j) e (held (reads s))
 
 -- a frame's body is not above the longest, and it is there
-pub frame_there : (s : List ℕ) (n : ℕ) → item_of s ≡ Frame n → (n ≤ most_body) × (4 + n ≤ length s)
-frame_there s n e = held_as s (Frame n) e
+pub frame_there : (s : List ℕ) (n : ℕ) → item_of s ≡ Ok (Frame n) → (n ≤ most_body) × (4 + n ≤ length s)
+frame_there s n e = held_as s (Ok (Frame n)) e
 
 -- a key is there, with a stamp of the period and numbers of 32 bits
-pub key_there : (s : List ℕ) (k : Key) → item_of s ≡ Begins k
+pub key_there : (s : List ℕ) (k : Key) → item_of s ≡ Ok (Begins k)
     → (14 ≤ length s) × (k.stamp ≤ last_stamp) × (((i : ℕ) → get_or s i 0 < 256) → (k.bearer < 2 ^ 32) × (k.period < 2 ^ 32))
-key_there s k e = held_as s (Begins k) e
+key_there s k e = held_as s (Ok (Begins k)) e
 
 -- a cut item is shorter than the longest one
-pub cut_short : (s : List ℕ) → item_of s ≡ Cut → length s < longest_item
-cut_short s e = held_as s Cut e
+pub cut_short : (s : List ℕ) → item_of s ≡ Err Cut → length s < longest_item
+cut_short s e = held_as s (Err Cut) e
 
 -- so a buffer that has room for the longest item never holds a cut one in front of unread input
-pub never_cut : (s : List ℕ) → longest_item ≤ length s → item_of s ≡ Cut → ⊥
+pub never_cut : (s : List ℕ) → longest_item ≤ length s → item_of s ≡ Err Cut → ⊥
 never_cut s h e = let l = cut_short s e in omega arith
 
-sized : (s : List ℕ) (i : Item) → Held s i → size_of i ≤ length s
+sized : (s : List ℕ) (i : Found) → Held s i → size_of i ≤ length s
 unfolding size_of
-sized s (Begins k) h = h.0
-sized s (Frame n) h = h.1
-sized s Wrong h = omega arith
-sized s Cut h = omega arith
+sized s (Ok (Begins k)) h = h.0
+sized s (Ok (Frame n)) h = h.1
+sized s (Err Wrong) h = omega arith
+sized s (Err Cut) h = omega arith
 
 -- the octets of an item are there
 pub size_there : (s : List ℕ) → size_of (item_of s) ≤ length s
@@ -84,7 +85,7 @@ module _ (s t : List ℕ) where
   unfolding key_of
   same_key h = rw (le_append 4 4 s t (omega arith), le_append 4 8 s t (omega arith), same_stamp h)
 
-  longer : {i : Item} → Reads s i → (i ≡ Cut → ⊥) → Reads (s ++ t) i
+  longer : {i : Found} → Reads s i → (i ≡ Err Cut → ⊥) → Reads (s ++ t) i
   longer (no_head_fact h) n = absurd (n refl)
   longer (other_kind h a b) n = other_kind (at_least 4 h) (rw (same_kind h) a) (rw (same_kind h) b)
   longer (other_length h k b) n = other_length (at_least 4 h) (rw (same_kind h) k) (rw (same_body h) b)
@@ -102,5 +103,5 @@ module _ (s t : List ℕ) where
       rw (← same_body h) (frame (rw (same_kind h) k) (rw (same_body h) b) (rw (same_body h) (at_least (4 + body_length s) l)))
 
   -- more input does not change an item that is not cut
-  pub enough : (item_of s ≡ Cut → ⊥) → item_of (s ++ t) ≡ item_of s
+  pub enough : (item_of s ≡ Err Cut → ⊥) → item_of (s ++ t) ≡ item_of s
   enough n = sym (read_as (longer (reads s) n))

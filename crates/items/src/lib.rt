@@ -27,6 +27,11 @@ pub enum Item {
     Begins(Key),
     // A frame, with the length of its body.
     Frame(usize),
+}
+
+// Why no item stands in front.
+#[derive(Clone, Copy)]
+pub enum NoItem {
     // No more octets can mend it.
     Wrong,
     // Its octets are not all there.
@@ -34,56 +39,54 @@ pub enum Item {
 }
 
 // An item of kind 1 whose body has n octets.
-fn read_key(s: &[u8], n: u32) -> Item
+fn read_key(s: &[u8], n: u32) -> Result<Item, NoItem>
     requires { (4 ≤ length s.now) × (kind s.now ≡ 1) × (n ≡ body_length s.now) }
     ensures { result ≡ item_of s.now }
 {
     if n != 10 {
-        return Item::Wrong;
+        return Err(NoItem::Wrong);
     }
     if s.len() < 14 {
-        return Item::Cut;
+        return Err(NoItem::Cut);
     }
     let stamp = two(s, 12);
     if LAST_STAMP < stamp as u64 {
-        return Item::Wrong;
+        return Err(NoItem::Wrong);
     }
-    Item::Begins(Key {
+    Ok(Item::Begins(Key {
         bearer: four(s, 4),
         period: four(s, 8),
-        stamp: stamp,
-    })
+        stamp,
+    }))
 }
 
 // An item of kind 2 whose body has n octets.
-fn read_frame(s: &[u8], n: u32) -> Item
+fn read_frame(s: &[u8], n: u32) -> Result<Item, NoItem>
     requires { (4 ≤ length s.now) × (kind s.now ≡ 2) × (n ≡ body_length s.now) }
     ensures { result ≡ item_of s.now }
 {
     if MOST_BODY < n {
-        return Item::Wrong;
+        return Err(NoItem::Wrong);
     }
     let body = n as usize;
     if s.len() < 4 + body {
-        return Item::Cut;
+        return Err(NoItem::Cut);
     }
-    Item::Frame(body)
+    Ok(Item::Frame(body))
 }
 
 // The item in front of the input.
-pub fn next_item(input: &[u8]) -> Item
+pub fn next_item(input: &[u8]) -> Result<Item, NoItem>
     ensures { result ≡ item_of input.now }
 {
     if input.len() < 4 {
-        return Item::Cut;
+        return Err(NoItem::Cut);
     }
     let n = two(input, 0);
     let kind = two(input, 2);
-    if kind == 1 {
-        return read_key(input, n);
+    match kind {
+        1 => read_key(input, n),
+        2 => read_frame(input, n),
+        _ => Err(NoItem::Wrong),
     }
-    if kind == 2 {
-        return read_frame(input, n);
-    }
-    Item::Wrong
 }

@@ -5,17 +5,17 @@ use mathlib.Core.Bool.{true, false, not}
 use lib.Dec.{eqb}
 use lib.ListN.{length}
 use borrow.Author.Tests.{eqb-true, not-false, lt-ltb, le-ltb}
-use Rattle.units.specs.Refusals.{other_sequence, record_damaged, capacities_differ}
 use Rattle.fields.proofs.Tests.{or_false}
 use Rattle.reception.specs.Hearing.{Kept, held_by, unmatched, damaged_kept}
 use Rattle.reception.specs.Joining.{joined_kept, own_closing_off, lowest, refuses_join, contradicts, joins, capacities_off, other_record, closing_named, join_records}
 use Rattle.reception.proofs.KeptAsHeld.{MatchedKept, lists_matched}
 use Rattle.reception.proofs.JoinJudged.{Joinable, joinable_judged}
 use Rattle.joining.specs.Beside.{LowestFound}
+use Rattle.units.specs.declared.refusals.Refusal.TheVariants.{CapacitiesDiffer, OtherSequence, RecordDamaged}
 
 module _ (a b : Kept) where
   -- refusal 14
-  pub join_unmatched : capacities_off a b ≡ true → join_records a b ≡ refuses_join a capacities_differ
+  pub join_unmatched : capacities_off a b ≡ true → join_records a b ≡ refuses_join a CapacitiesDiffer
   unfolding join_records
   join_unmatched o = rw o refl
 
@@ -36,18 +36,18 @@ module _ (a b : Kept) where
     same_long = lists_off.2
 
     -- refusal 13, of the left and of the right
-    pub left_damaged : damaged_kept a ≡ true → join_records a b ≡ refuses_join a record_damaged
+    pub left_damaged : damaged_kept a ≡ true → join_records a b ≡ refuses_join a RecordDamaged
     unfolding join_records
     left_damaged d = rw (o, d) refl
 
     module _ (d : damaged_kept a ≡ false) where
-      pub right_damaged : damaged_kept b ≡ true → join_records a b ≡ refuses_join a record_damaged
+      pub right_damaged : damaged_kept b ≡ true → join_records a b ≡ refuses_join a RecordDamaged
       unfolding join_records
       right_damaged f = rw (o, d, f) refl
 
       module _ (f : damaged_kept b ≡ false) where
         -- refusal 9
-        pub join_other : other_record a b ≡ true → join_records a b ≡ refuses_join a other_sequence
+        pub join_other : other_record a b ≡ true → join_records a b ≡ refuses_join a OtherSequence
         unfolding join_records
         join_other k = rw (o, d, f, k) refl
 

@@ -4,47 +4,32 @@
 mod searching;
 mod writing;
 
-ghost use Rattle.std.specs.Prelude.{◌≡◌, true, false, not, ◌||◌, ◌&&◌, eqb};
-ghost use Rattle.reception.specs.Sendings.{held_in};
-ghost use Rattle.reception.specs.Walk.{is_explained};
-ghost use Rattle.reception.specs.Damage.{Matched};
+ghost use Rattle.std.specs.Prelude.{◌≡◌, false, not, ◌||◌, ◌&&◌, eqb};
+ghost use Rattle.reception.specs.Lent.{kept, held};
 ghost use Rattle.reception.specs.Adding.{closing_contradicts};
 ghost use Rattle.reception.specs.Hearing.{kept_in, lists_differ, damaged_kept};
-ghost use Rattle.reception.specs.declared.Joined.TheVariants.{Contradicted, Refused};
-ghost use Rattle.units.specs.Refusals.{refusing};
+ghost use Rattle.std.specs.Prelude.{Err};
 ghost use Rattle.reception.specs.Joining.{capacities_off, other_record, join_records, Joins};
 
 use damage::{is_damaged, lists_differ, other_key};
-use hearing::contradicting::{Span, closing_contradicts};
-use reception::{Head, Joined, Joining};
+use hearing::contradicting::closing_contradicts;
+use hearing::looking::Heard;
+use hearing::taking::whole;
+use reception::record::Record;
+use reception::{Answered, Head, NotJoined};
 use searching::lowest_off;
 use units::Refusal;
-use units::refusals::{CAPACITIES_DIFFER, OTHER_SEQUENCE, RECORD_DAMAGED};
 use writing::{joined_head, write_union};
 
 // The number that names the closing of the right record.
 const CLOSING: u32 = 65536;
 
-// A refusal, and the left's head as it was.
-fn refused(h: Head, number: u8) -> Joining
-    ensures { result ≡ record { answer = Refused (refusing number); head = h } }
+// Why it is not joined, and the left's head as it was.
+fn refused(h: Head, why: NotJoined) -> Answered<NotJoined>
+    ensures { result ≡ record { answer = Err why; head = h } }
 {
-    Joining {
-        answer: Joined::Refused(Refusal {
-            number: number,
-            found: 0,
-            worked_out: 0,
-        }),
-        head: h,
-    }
-}
-
-// Refusal 11 with the number that it names, and the left's head as it was.
-fn contradicted(h: Head, number: u32) -> Joining
-    ensures { result ≡ record { answer = Contradicted number; head = h } }
-{
-    Joining {
-        answer: Joined::Contradicted(number),
+    Answered {
+        answer: Err(why),
         head: h,
     }
 }
@@ -60,29 +45,16 @@ fn capacities_off(
 ) -> bool
     ensures { result ≡ (lists_differ marks elapsed sizes || (lists_differ r_marks r_elapsed r_sizes || not (eqb marks r_marks))) }
 {
-    if lists_differ(marks, elapsed, sizes) {
-        return true;
-    }
-    if lists_differ(r_marks, r_elapsed, r_sizes) {
-        return true;
-    }
-    marks != r_marks
+    lists_differ(marks, elapsed, sizes)
+        || lists_differ(r_marks, r_elapsed, r_sizes)
+        || marks != r_marks
 }
 
 // Whether the right's closing alone contradicts the left.
-fn right_closing_off(h: Head, marks: &[u8], elapsed: &[u32], sizes: &[u16], g: Head) -> bool
-    requires cases { Matched marks.now elapsed.now sizes.now }
-    requires sizes_value { is_explained (held_in h marks.now elapsed.now sizes.now) ≡ true }
-    ensures { result ≡ (g.closed && closing_contradicts (held_in h marks.now elapsed.now sizes.now) g.count.0 g.total.0) }
+fn right_closing_off(left: &Heard, g: Head) -> bool
+    ensures { result ≡ (g.closed && closing_contradicts (held left.now.inner) g.count.0 g.total.0) }
 {
-    if g.closed {
-        let whole = Span {
-            first: 0,
-            end: marks.len(),
-        };
-        return closing_contradicts(h, whole, marks, elapsed, sizes, g.count, g.total);
-    }
-    false
+    g.closed && closing_contradicts(left, g.count, g.total)
 }
 
 // Joins two undamaged records of one key and one capacity: refusal 11, or the union.
@@ -91,31 +63,35 @@ fn join_undamaged(
     marks: &mut [u8],
     elapsed: &mut [u32],
     sizes: &mut [u16],
-    g: Head,
-    r_marks: &[u8],
-    r_elapsed: &[u32],
-    r_sizes: &[u16],
-) -> Joining
-    requires r_sizes_value { capacities_off (kept_in h marks.old elapsed.old sizes.old) (kept_in g r_marks.now r_elapsed.now r_sizes.now) ≡ false }
-    requires sizes_value { damaged_kept (kept_in h marks.old elapsed.old sizes.old) ≡ false }
-    requires r_sizes_value_2 { damaged_kept (kept_in g r_marks.now r_elapsed.now r_sizes.now) ≡ false }
-    requires r_sizes_value_3 { other_record (kept_in h marks.old elapsed.old sizes.old) (kept_in g r_marks.now r_elapsed.now r_sizes.now) ≡ false }
+    right: &Record,
+) -> Answered<NotJoined>
+    requires capacities { capacities_off (kept_in h marks.old elapsed.old sizes.old) (kept right.now) ≡ false }
+    requires left_undamaged { damaged_kept (kept_in h marks.old elapsed.old sizes.old) ≡ false }
+    requires right_undamaged { damaged_kept (kept right.now) ≡ false }
+    requires same_key { other_record (kept_in h marks.old elapsed.old sizes.old) (kept right.now) ≡ false }
     ensures { Joins
-        (join_records (kept_in h marks.old elapsed.old sizes.old)
-        (kept_in g r_marks.now r_elapsed.now r_sizes.now))
+        (join_records (kept_in h marks.old elapsed.old sizes.old) (kept right.now))
         result marks.new elapsed.new sizes.new }
 {
-    let k = lowest_off(h, marks, elapsed, sizes, r_marks, r_elapsed, r_sizes);
-    if k < marks.len() {
-        return contradicted(h, k as u32);
+    let span = whole(marks.len());
+    let inner = Record {
+        head: h,
+        marks,
+        elapsed,
+        sizes,
+    };
+    let left = Heard { inner, span };
+    let k = lowest_off(&left, right);
+    if k < left.inner.marks.len() {
+        return refused(h, NotJoined::Contradicts(k as u32));
     }
-    if right_closing_off(h, marks, elapsed, sizes, g) {
-        return contradicted(h, CLOSING);
+    if right_closing_off(&left, right.head) {
+        return refused(h, NotJoined::Contradicts(CLOSING));
     }
-    write_union(marks, elapsed, sizes, r_marks, r_elapsed, r_sizes);
-    Joining {
-        answer: Joined::Done,
-        head: joined_head(h, g),
+    write_union(marks, elapsed, sizes, right);
+    Answered {
+        answer: Ok(()),
+        head: joined_head(h, right.head),
     }
 }
 
@@ -125,27 +101,27 @@ fn join_matched(
     marks: &mut [u8],
     elapsed: &mut [u32],
     sizes: &mut [u16],
-    g: Head,
-    r_marks: &[u8],
-    r_elapsed: &[u32],
-    r_sizes: &[u16],
-) -> Joining
-    requires { capacities_off (kept_in h marks.old elapsed.old sizes.old) (kept_in g r_marks.now r_elapsed.now r_sizes.now) ≡ false }
+    right: &Record,
+) -> Answered<NotJoined>
+    requires { capacities_off (kept_in h marks.old elapsed.old sizes.old) (kept right.now) ≡ false }
     ensures { Joins
-        (join_records (kept_in h marks.old elapsed.old sizes.old)
-        (kept_in g r_marks.now r_elapsed.now r_sizes.now))
+        (join_records (kept_in h marks.old elapsed.old sizes.old) (kept right.now))
         result marks.new elapsed.new sizes.new }
 {
-    if is_damaged(h, marks, elapsed, sizes) {
-        return refused(h, RECORD_DAMAGED);
+    let left = Record {
+        head: h,
+        marks,
+        elapsed,
+        sizes,
+    };
+    if is_damaged(&left) || is_damaged(right) {
+        return refused(h, NotJoined::Refused(Refusal::RecordDamaged));
     }
-    if is_damaged(g, r_marks, r_elapsed, r_sizes) {
-        return refused(h, RECORD_DAMAGED);
-    }
+    let g = right.head;
     if other_key(h, g.bearer, g.period, g.stamp) {
-        return refused(h, OTHER_SEQUENCE);
+        return refused(h, NotJoined::Refused(Refusal::OtherSequence));
     }
-    join_undamaged(h, marks, elapsed, sizes, g, r_marks, r_elapsed, r_sizes)
+    join_undamaged(h, marks, elapsed, sizes, right)
 }
 
 // Joins the right record (g and the lists after it) to the left one, which is written.
@@ -158,7 +134,7 @@ pub fn join(
     other_marks: &[u8],
     other_elapsed: &[u32],
     other_sizes: &[u16],
-) -> Joining
+) -> Answered<NotJoined>
     ensures { Joins
         (join_records (kept_in h marks.old elapsed.old sizes.old)
         (kept_in g other_marks.now other_elapsed.now other_sizes.now))
@@ -172,16 +148,13 @@ pub fn join(
         other_elapsed.len(),
         other_sizes.len(),
     ) {
-        return refused(h, CAPACITIES_DIFFER);
+        return refused(h, NotJoined::Refused(Refusal::CapacitiesDiffer));
     }
-    join_matched(
-        h,
-        marks,
-        elapsed,
-        sizes,
-        g,
-        other_marks,
-        other_elapsed,
-        other_sizes,
-    )
+    let right = Record {
+        head: g,
+        marks: other_marks,
+        elapsed: other_elapsed,
+        sizes: other_sizes,
+    };
+    join_matched(h, marks, elapsed, sizes, &right)
 }

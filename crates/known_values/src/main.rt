@@ -4,18 +4,15 @@
 
 use std::io;
 
-fn say(out: &impl Print, text: &str) -> io::Result<()> {
-    out.print(text)
-}
-
 fn header(out: &impl Print, name: &str, control: &[u8]) -> io::Result<()> {
-    say(out, name)?;
-    println!(out; ": header check {:02x}", checks::header_check(control))
+    println!(out;
+        "{name}: header check {:02x}",
+        checks::header_check(control)
+    )
 }
 
 fn payload(out: &impl Print, name: &str, part: &[u8]) -> io::Result<()> {
-    say(out, name)?;
-    println!(out; ": payload check {:03x}", checks::payload_check(part))
+    println!(out; "{name}: payload check {:03x}", checks::payload_check(part))
 }
 
 fn main(rt: HostRuntime) -> io::Result<()> {

@@ -1,7 +1,8 @@
 -- Decimal digits say their number, and in one way only: each is one of '0' to '9', there are one to twenty of them, and none is a
 -- leading zero. Assumes nothing.
-use Prim.Native.Nat.{ℕ, zero, suc, ◌+◌, ◌-◌, ◌*◌, ◌/◌, ◌%◌, ◌^◌, ◌≤◌, ◌<◌}
+use Prim.Native.Nat.{ℕ, zero, suc, ◌+◌, ◌-◌, ◌*◌, ◌/◌, ◌%◌, ◌^◌, ◌≤◌, ◌<◌, max}
 use native.Mathlib.Nat.{pow-suc}
+use Rattle.std.proofs.Math.Nat.{one-le-pow}
 use native.Mathlib.Omega.{arith}
 use mathlib.Core.Path.{◌≡◌, refl, sym, ap, ◌∙◌}
 use mathlib.Core.Logic.{◌⊎◌, inl, inr, ⊎_elim}
@@ -152,25 +153,31 @@ decimal_first n h p = first_within 20 n (sixty_four n h) p
 pub length_more : (n : ℕ) → n < 2 ^ 64 → 10 ≤ n → length (decimal n) ≡ length (decimal (n / 10)) + 1
 length_more n h l = rw (decimal_more n h l) (length-append (decimal (n / 10)) ((48 + n % 10) ∷ []))
 
--- how many digits a number below 10,000 has
+-- below ten: one digit
 pub length_one : (n : ℕ) → n < 10 → length (decimal n) ≡ 1
 length_one n h = rw (decimal_one n h) refl
 
-pub length_two : (n : ℕ) → 10 ≤ n → n < 100 → length (decimal n) ≡ 2
-length_two n l h = length_more n (omega arith) l ∙ rw (length_one (n / 10) (omega arith)) refl
+-- and from ten on not
+pub one_digit : (n : ℕ) → n < 2 ^ 64 → length (decimal n) ≤ 1 → n < 10
+one_digit n h l =
+    ⊎_elim (λ (few : n < 10). few) (λ (more : 10 ≤ n). absurd (omega (arith, l, length_more n h more, decimal_length (n / 10)))) (one-digit? n)
 
-pub length_three : (n : ℕ) → 100 ≤ n → n < 1000 → length (decimal n) ≡ 3
-length_three n l h = length_more n (omega arith) (omega arith) ∙ rw (length_two (n / 10) (omega arith) (omega arith)) refl
+pub more_digits : (n : ℕ) → 1 < length (decimal n) → 9 < n
+more_digits n l =
+    ⊎_elim (λ (few : n < 10). absurd (omega (arith, l, length_one n few))) (λ (more : 10 ≤ n). more) (one-digit? n)
 
-pub length_four : (n : ℕ) → 1000 ≤ n → n < 10000 → length (decimal n) ≡ 4
-length_four n l h = length_more n (omega arith) (omega arith) ∙ rw (length_three (n / 10) (omega arith) (omega arith)) refl
+-- as many as the power of ten that it reaches says
+pub length_power : (k n : ℕ) → n < 2 ^ 64 → 10 ^ k ≤ n → n < 10 * 10 ^ k → length (decimal n) ≡ 1 + k
+length_power zero n h l u = length_one n (omega (arith, u))
+length_power (suc k) n h l u =
+    let p : 10 * 10 ^ k ≤ n = omega (arith, rw pow-suc at l) in
+    let q : n < 10 * (10 * 10 ^ k) = omega (arith, rw pow-suc at u) in
+    let few : 1 ≤ 10 ^ k = one-le-pow k 10 (omega arith) in
+    length_more n h (omega (arith, p, few)) ∙ ap (λ (d : ℕ). d + 1) (length_power k (n / 10) (omega arith) (omega (arith, p)) (omega (arith, q))) ∙ omega arith
 
--- four digits more than the number of its ten thousands has
-pub length_four_more : (n : ℕ) → n < 2 ^ 64 → 10000 ≤ n → length (decimal n) ≡ length (decimal (n / 10000)) + 4
-length_four_more n h l =
-    let e : n / 10 / 10 / 10 / 10 ≡ n / 10000 = omega arith in
-    let a = length_more n h (omega arith) in
-    let b = length_more (n / 10) (omega arith) (omega arith) in
-    let c = length_more (n / 10 / 10) (omega arith) (omega arith) in
-    let d = length_more (n / 10 / 10 / 10) (omega arith) (omega arith) in
-    rw (← e) (omega (arith, a, b, c, d))
+-- and 0 has as many as 1
+pub length_least : (n m k : ℕ) → n < 2 ^ 64 → m ≡ max n 1 → 10 ^ k ≤ m → m < 10 * 10 ^ k → 1 + k ≡ length (decimal n)
+length_least n m k h e l u =
+    sym (length_power k m (omega (arith, e)) l u)
+    ∙ ⊎_elim (λ (few : n < 10). length_one m (omega (arith, e)) ∙ sym (length_one n few))
+    (λ (more : 10 ≤ n). let s : m ≡ n = omega (arith, e) in ap (λ (x : ℕ). length (decimal x)) s) (one-digit? n)

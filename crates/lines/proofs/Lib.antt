@@ -1,4 +1,4 @@
-pub mod Counting
+pub mod Added
 pub mod Decimal
 pub mod Examples
 pub mod FoundAgain

@@ -6,7 +6,9 @@ use native.Mathlib.Omega.{arith}
 use mathlib.Core.Path.{◌≡◌, refl, sym, ap, ◌∙◌}
 use mathlib.Core.List.{List, [], ◌∷◌, ◌++◌, append_assoc, append-nil}
 use lib.ListN.{length, set, take, length-append}
-use lib.Seq.{set_split, append_snoc}
+use lib.Seq.{set_split, append_snoc, take_all}
+use borrow.Rule.Slice.PartMut.{put_mid}
+use Rattle.std.proofs.lemmas.Slice.{put_mid-paste}
 use Rattle.fields.specs.Runs.{laid}
 use Rattle.fields.proofs.Laying.{laid_then, laid_none, laid_first, take_front}
 use Rattle.lines.specs.Text.{field, fields_of, line, Puts}
@@ -22,6 +24,12 @@ unfolding laid
 puts_one old at d h =
     record { leaves = set_split old at d h ∙ rw (add-one at) (sym (append_snoc (take at old) d _)); ends = refl }
 
+-- a text that fills a part of memory
+pub puts_part : (text old part : List ℕ) (at r k : ℕ) → part ≡ text → r ≡ at + length text → k ≡ length text → Puts text old at r (put_mid at k old part)
+unfolding laid
+puts_part text old part at r k e x l =
+    record { leaves = put_mid-paste at k old part text (length text) e (sym l) refl ∙ rw (take_all (length text) text (omega arith)) refl; ends = x }
+
 -- b put behind a
 pub puts_then : {a b old mid new : List ℕ} {at r s : ℕ} → at ≤ length old → Puts a old at r mid → Puts b mid r s new → Puts (a ++ b) old at s new
 puts_then {a} {b} {old} {mid} {new} {at} {r} {s} h p q =
@@ -36,27 +44,10 @@ puts_whole {text} {old} {new} {r} p =
     rw (p.leaves, laid_first old text) (take_front old text r (sym (p.ends ∙ zero-add (length text))))
 
 -- fields, and one more behind them
-fields_snoc : (ns : List ℕ) (n : ℕ) → fields_of ns ++ field n ≡ fields_of (ns ++ (n ∷ []))
+pub fields_snoc : (ns : List ℕ) (n : ℕ) → fields_of ns ++ field n ≡ fields_of (ns ++ (n ∷ []))
 unfolding fields_of
 fields_snoc [] n = sym (append-nil (field n))
 fields_snoc (m ∷ ns) n = append_assoc (field m) (fields_of ns) (field n) ∙ ap (λ (xs : List ℕ). field m ++ xs) (fields_snoc ns n)
-
--- a word begins a line with no field yet
-pub puts_word : {word old new : List ℕ} {at r : ℕ} → Puts word old at r new → Puts (word ++ fields_of []) old at r new
-unfolding fields_of
-puts_word {word} p = rw (append-nil word) p
-
--- a field more
-pub puts_field : (word ns : List ℕ) (n : ℕ) {old mid new : List ℕ} {at r s : ℕ} → at ≤ length old → Puts (word ++ fields_of ns) old at r mid → Puts (field n) mid r s new
-    → Puts (word ++ fields_of (ns ++ (n ∷ []))) old at s new
-puts_field word ns n h p q =
-    rw (← fields_snoc ns n, ← append_assoc word (fields_of ns) (field n)) (puts_then h p q)
-
--- the line's end makes it a line
-pub puts_line : (word ns : List ℕ) {old mid new : List ℕ} {at r s : ℕ} → at ≤ length old → Puts (word ++ fields_of ns) old at r mid → Puts (10 ∷ []) mid r s new
-    → Puts (line word ns) old at s new
-unfolding line
-puts_line word ns h p q = puts_then h p q
 
 -- a number takes 21 octets at most
 pub field_length : (n : ℕ) → length (field n) ≤ 21

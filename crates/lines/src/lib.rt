@@ -1,77 +1,96 @@
-// Text put into lent memory: words, numbers in decimal and the ends of lines. Each function answers the place behind what it put.
+// Text put into lent memory: words, numbers in decimal and the ends of lines, one behind the other.
 // Callers have lent enough: what a number takes is never more than 21 octets.
 #![tactic(auto)]
 
-ghost use Rattle.std.specs.Prelude.{◌≡◌, [], ◌∷◌, ◌+◌, ◌≤◌, length};
-ghost use Rattle.fields.specs.Runs.{laid};
-ghost use Rattle.lines.specs.Text.{decimal, field, Puts};
+ghost use Rattle.std.specs.Prelude.{◌≡◌, [], ◌∷◌, ◌++◌, ◌+◌, ◌*◌, ◌≤◌, length};
+ghost use Rattle.lines.specs.Text.{decimal, field, fields_of, line};
 
-use fields::copy;
+// Memory, and the place up to which text was put into it.
+#[derive(Drop)]
+pub struct Text<'a> {
+    pub out: &'a mut [u8],
+    pub at: usize,
+    ghost inside: { at ≤ length out.now },
+}
+
+impl<'a> Text<'a> {
+    ghost use Rattle.lines.specs.Adding.{room, Adds};
+
+    // How many octets have room still.
+    pub fn room(&self) -> usize
+        ensures { result ≡ room self.now }
+    {
+        self.out.len() - self.at
+    }
+
+    // All of a word.
+    pub fn put(&mut self, word: &[u8])
+        requires { self.old.at + length word.now ≤ length self.old.out.now }
+        ensures { Adds word.now (length word.now) self.old self.new }
+    {
+        let end = self.at + word.len();
+        self.out[self.at..end].copy_from_slice(word);
+        self.at = end;
+    }
+
+    // A space, and n in decimal.
+    pub fn put_number(&mut self, n: u64)
+        requires { self.old.at + 21 ≤ length self.old.out.now }
+        ensures { Adds (field n) 21 self.old self.new }
+    {
+        let first = self.at + 1;
+        let end = first + digits_of(n);
+        self.out[self.at] = 32;
+        put_digits(&mut self.out[first..end], n);
+        self.at = end;
+    }
+
+    // The end of a line.
+    pub fn put_end(&mut self)
+        requires { self.old.at + 1 ≤ length self.old.out.now }
+        ensures { Adds (10 ∷ []) 1 self.old self.new }
+    {
+        self.out[self.at] = 10;
+        self.at += 1;
+    }
+
+    // A word and numbers behind it, and no line's end yet.
+    pub fn put_fields(&mut self, word: &[u8], numbers: &[u64])
+        requires { self.old.at + (length word.now + 21 * length numbers.now) ≤ length self.old.out.now }
+        ensures { Adds (word.now ++ fields_of numbers.now) (length word.now + 21 * length numbers.now) self.old self.new }
+    {
+        self.put(word);
+        for n in numbers {
+            self.put_number(*n);
+        }
+    }
+
+    // A line of a word and numbers.
+    pub fn put_line(&mut self, word: &[u8], numbers: &[u64])
+        requires { self.old.at + (length word.now + 21 * length numbers.now + 1) ≤ length self.old.out.now }
+        ensures { Adds (line word.now numbers.now) (length word.now + 21 * length numbers.now + 1) self.old self.new }
+    {
+        self.put_fields(word, numbers);
+        self.put_end();
+    }
+}
 
 // How many decimal digits n has.
 fn digits_of(n: u64) -> usize
     ensures { (result ≡ length (decimal n)) × (result ≤ 20) }
 {
-    let mut rest = n;
-    let mut k: usize = 0;
-    while 9999 < rest {
-        rest = rest / 10000;
-        k += 4;
-    }
-    if rest < 10 {
-        return k + 1;
-    }
-    if rest < 100 {
-        return k + 2;
-    }
-    if rest < 1000 {
-        return k + 3;
-    }
-    k + 4
+    1 + n.max(1).ilog10() as usize
 }
 
-// The k decimal digits of n, laid into out from at on, the last one first.
-fn put_digits(out: &mut [u8], at: usize, k: usize, n: u64)
-    requires k_value { k ≡ length (decimal n) }
-    requires k_in_bounds { at + k ≤ length out.old }
-    ensures { out.new ≡ laid out.old at (decimal n) }
+// The decimal digits of n, which fill out, the last one first.
+fn put_digits(out: &mut [u8], n: u64)
+    requires { length out.old ≡ length (decimal n) }
+    ensures { out.new ≡ decimal n }
 {
-    let mut i = k;
     let mut rest = n;
-    while 9 < rest {
-        i -= 1;
-        out[at + i] = (48 + rest % 10) as u8;
+    for i in (1..out.len()).rev() {
+        out[i] = (48 + rest % 10) as u8;
         rest = rest / 10;
     }
-    out[at] = (48 + rest) as u8;
-}
-
-// All of text.
-pub fn put_text(out: &mut [u8], at: usize, text: &[u8]) -> usize
-    requires { at + length text.now ≤ length out.old }
-    ensures { Puts text.now out.old at result out.new }
-{
-    copy(text, out, at);
-    at + text.len()
-}
-
-// A space, and n in decimal.
-pub fn put_number(out: &mut [u8], at: usize, n: u64) -> usize
-    requires { at + 21 ≤ length out.old }
-    ensures { Puts (field n) out.old at result out.new }
-{
-    let first = at + 1;
-    let k = digits_of(n);
-    out[at] = 32;
-    put_digits(out, first, k, n);
-    first + k
-}
-
-// The end of a line.
-pub fn put_end(out: &mut [u8], at: usize) -> usize
-    requires { at + 1 ≤ length out.old }
-    ensures { Puts (10 ∷ []) out.old at result out.new }
-{
-    out[at] = 10;
-    at + 1
+    out[0] = (48 + rest) as u8;
 }

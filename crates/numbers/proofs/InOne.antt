@@ -1,5 +1,5 @@
--- How an answer is put into one number, and that a list of lengths is short enough for it. Assumes nothing.
-use Prim.Native.Nat.{ℕ, ◌+◌, ◌*◌, ◌≤◌}
+-- That what a frame counts is few enough for one number. Assumes nothing.
+use Prim.Native.Nat.{ℕ, ◌+◌, ◌≤◌}
 use mathlib.Core.Path.{◌≡◌, sym, subst}
 use mathlib.Core.Bool.{false, not, ◌||◌}
 use mathlib.Core.List.{List}
@@ -7,39 +7,22 @@ use native.Mathlib.Omega.{arith}
 use lib.ListN.{length}
 use lib.Dec.{eqb}
 use borrow.Author.Tests.{eqb-true, not-false}
-use Rattle.units.specs.declared.Refusal.{Refusal}
-use Rattle.units.specs.OneNumber.{refusal_in_one}
 use Rattle.fields.proofs.Tests.{or_false}
-use Rattle.frame.specs.declared.Written.{Written}
-use Rattle.frame.specs.declared.Written.TheVariants.{Done, Refused}
+use Rattle.frame.specs.Answers.{Written}
 use Rattle.frame.specs.Counts.{any_above, sum_of, list_wrong}
 use Rattle.frame.specs.Layout.{filled}
 use Rattle.frame.specs.Paper.{CountPaper, written_paper}
-use Rattle.numbers.specs.Answers.{in_one, most_counted}
+use Rattle.numbers.specs.Answers.{most_told}
 
 abbrev pub Few : Written → Type 0
-Few w = (written_paper w).count ≤ most_counted
+Few w = (written_paper w).count ≤ most_told
 
 -- an answer with the same paper has as few
 pub as_few : (a r : Written) → written_paper r ≡ written_paper a → Few a → Few r
-as_few a r e h = subst (λ (p : CountPaper). p.count ≤ most_counted) (sym e) h
-
--- an answer in one number
-module _ (w : Written) where
-  pub one_refused : (x : Refusal) → w ≡ Refused x → refusal_in_one x.number x.found x.worked_out ≡ in_one (written_paper w)
-  unfolding in_one written_paper
-  one_refused x e = rw e (omega arith)
-
-  pub one_done : (n : ℕ) → w ≡ Done n → 256 * n ≡ in_one (written_paper w)
-  unfolding in_one written_paper
-  one_done n e = rw e (omega arith)
-
-  pub done_few : (n : ℕ) → w ≡ Done n → Few w → n ≤ most_counted
-  unfolding written_paper
-  done_few n e h = rw e at h
+as_few a r e h = subst (λ (p : CountPaper). p.count ≤ most_told) (sym e) h
 
 -- as many lengths as Packet Number can say
-pub lengths_few : (ls : List ℕ) (n e : ℕ) → list_wrong ls n e ≡ false → n ≤ 65535 → 19 + filled (length ls) ≤ most_counted
+pub lengths_few : (ls : List ℕ) (n e : ℕ) → list_wrong ls n e ≡ false → n ≤ 65535 → 19 + filled (length ls) ≤ most_told
 unfolding list_wrong
 lengths_few ls n e w h =
     let p = (or_false (not (eqb (length ls) n)) (any_above ls || not (eqb (sum_of ls) e)) w).0 in

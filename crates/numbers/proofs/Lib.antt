@@ -1,2 +1,2 @@
 pub mod InOne
-pub mod StoredInFront
+pub mod Told

@@ -1,5 +1,5 @@
 -- How many octets a frame has fits one number, and how answers about frames meet the promises. Assumes nothing.
-use Prim.Native.Nat.{ℕ, ◌+◌, ◌*◌, ◌≤◌}
+use Prim.Native.Nat.{ℕ, ◌+◌, ◌≤◌}
 use mathlib.Core.Path.{◌≡◌, ap, ◌∙◌}
 use mathlib.Core.Bool.{false}
 use mathlib.Core.List.{List}
@@ -7,41 +7,22 @@ use native.Mathlib.Omega.{arith}
 use lib.ListN.{length}
 use lib.Dec.{ltb, leb}
 use borrow.Author.Tests.{ltb-false, leb-false}
-use Rattle.units.specs.declared.Packets.{Packets}
-use Rattle.units.specs.declared.Refusal.{Refusal}
-use Rattle.units.specs.OneNumber.{refusal_in_one}
 use Rattle.units.specs.Limits.{last_stamp, most_payload}
 use Rattle.fields.proofs.Tests.{or_false}
 use Rattle.frame.specs.declared.ClosingPdu.{ClosingPdu}
-use Rattle.frame.specs.declared.Listed.{Listed}
-use Rattle.frame.specs.declared.Listed.TheVariants.{Lengths, Refused as NotListed}
-use Rattle.frame.specs.declared.Written.{Written}
+use Rattle.frame.specs.Answers.{Written}
 use Rattle.frame.specs.Counts.{data_wrong, closing_wrong, too_wide, given_wrong, list_wrong}
 use Rattle.frame.specs.Layout.{filled}
-use Rattle.frame.specs.Paper.{written_paper, listed_paper}
+use Rattle.frame.specs.Paper.{written_paper}
 use Rattle.frame.specs.Writing.{write_data, write_closing, write_lengths}
-use Rattle.reader.specs.Lists.{Lists}
 use Rattle.writer.specs.Promise.{Wrote}
 use Rattle.numbers.specs.Answers.{in_one}
 use Rattle.numbers.proofs.InOne.{Few, lengths_few}
-use Rattle.numbers_frames.specs.Reading.{ListsInOne}
 use Rattle.numbers_frames.specs.Writing.{Writes}
 use Rattle.fields.proofs.Choosing.{tested}
 
 pub wrote : (answer w : Written) (frame old new : List ℕ) (r : ℕ) → Wrote answer frame old w new → r ≡ in_one (written_paper w) → Writes answer frame old r new
 wrote answer w frame old new r p e = record { says = e ∙ ap in_one p.says; leaves = p.leaves }
-
-module _ (s old new : List ℕ) (l : Listed) (p : Lists s old l new) where
-  listed_as : (r : ℕ) → r ≡ in_one (listed_paper l) → ListsInOne s old r new
-  listed_as r e = record { says = e ∙ ap in_one p.says; leaves = p.leaves }
-
-  pub listed_refused : (x : Refusal) (r : ℕ) → l ≡ NotListed x → r ≡ refusal_in_one x.number x.found x.worked_out → ListsInOne s old r new
-  unfolding in_one listed_paper
-  listed_refused x r e f = listed_as r (f ∙ rw e (omega arith))
-
-  pub listed_done : (n : Packets) → l ≡ Lengths n → ListsInOne s old (256 * n.0) new
-  unfolding in_one listed_paper
-  listed_done n e = listed_as (256 * n.0) (rw e (omega arith))
 
 pub few_data : (stamp n e l room : ℕ) → Few (write_data stamp n e l room)
 unfolding write_data written_paper

@@ -1,1 +1,2 @@
 pub mod FramesCounted
+pub mod ReadTold

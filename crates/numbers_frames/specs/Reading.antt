@@ -13,11 +13,6 @@ use Rattle.numbers.specs.Answers.{in_one}
 abbrev pub values : ReadPaper → List ℕ
 values p = p.kind ∷ p.stamp ∷ p.packet ∷ p.elapsed ∷ p.packets ∷ p.octets ∷ p.payload ∷ []
 
--- seven values for a lent list: 12 where it is shorter, otherwise 0 and the values in front of what stood behind
-pub record SevenOut (vs old : List ℕ) (r : ℕ) (new : List ℕ) : Type 0 where
-  pub says : r ≡ (no_room when ltb (length old) 7 otherwise 0)
-  pub leaves : new ≡ (old when ltb (length old) 7 otherwise front old vs)
-
 -- a frame that was read as p says: the refusal's number with both checks of 4 and 7, and nothing written; or its values
 pub record ReadOut (p : ReadPaper) (old : List ℕ) (r : ℕ) (new : List ℕ) : Type 0 where
   pub says : r ≡ (refusal_in_one p.number p.found p.worked when eqb p.kind 0 otherwise no_room when ltb (length old) 7 otherwise 0)

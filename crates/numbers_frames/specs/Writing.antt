@@ -1,7 +1,7 @@
 -- What writing a frame from given fields promises C and Rust: its answer in one number. Assumes nothing.
 use Rattle.std.specs.Prelude.{ℕ, ◌≡◌, List}
 use Rattle.frame.specs.declared.ClosingPdu.{ClosingPdu}
-use Rattle.frame.specs.declared.Written.{Written}
+use Rattle.frame.specs.Answers.{Written}
 use Rattle.frame.specs.Paper.{written_paper}
 use Rattle.frame.specs.Writing.{after}
 use Rattle.numbers.specs.Answers.{in_one}

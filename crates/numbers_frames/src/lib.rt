@@ -2,35 +2,32 @@
 // lengths of a Type 3 frame with the answer in one number, which is 256 times how many octets or lengths were written, or a refusal.
 #![tactic(auto)]
 
-ghost use Rattle.std.specs.Prelude.{◌≡◌, [], ◌∷◌, ◌≤◌, length};
-ghost use Rattle.frame.specs.Paper.{read_paper, written_paper};
+ghost use Rattle.std.specs.Prelude.{◌≡◌, [], ◌∷◌, length};
+ghost use Rattle.frame.specs.Paper.{read_paper};
 ghost use Rattle.frame.specs.Reading.{read_frame};
 ghost use Rattle.frame.specs.Writing.{data_frame, closing_frame, lengths_frame, write_data, write_closing, write_lengths};
-ghost use Rattle.numbers.specs.Answers.{most_counted, in_one};
-ghost use Rattle.numbers_frames.specs.Reading.{SevenOut, ReadOut, ListsInOne};
+ghost use Rattle.numbers_frames.specs.Reading.{ReadOut, ListsInOne};
 ghost use Rattle.numbers_frames.specs.Writing.{closing_given, Writes};
 
-use frame::{ClosingPdu, Listed, Read, Written};
+use frame::{ClosingPdu, Read};
+use numbers::{in_one, number_of, put_in_front};
 use reader::{read_frame, read_lengths};
-use units::refusals::NO_ROOM;
-use units::{Octets, Packets, refusal_in_one};
+use units::{Octets, Packets};
 use writer::{write_closing, write_closing_with_lengths, write_data};
 
-// Seven numbers for a lent list.
-fn put_seven(said: &mut [u64], a: u64, b: u64, c: u64, d: u64, e: u64, f: u64, g: u64) -> u64
-    ensures { SevenOut (a ∷ b ∷ c ∷ d ∷ e ∷ f ∷ g ∷ []) said.old result said.new }
+// What a closing PDU says, behind one more than its type.
+fn closing_values(kind: u64, c: ClosingPdu) -> [u64; 7]
+    ensures { result ≡ kind ∷ c.stamp ∷ c.number.0 ∷ c.elapsed.0 ∷ c.packets.0 ∷ c.octets.0 ∷ 0 ∷ [] }
 {
-    if said.len() < 7 {
-        return NO_ROOM as u64;
-    }
-    said[0] = a;
-    said[1] = b;
-    said[2] = c;
-    said[3] = d;
-    said[4] = e;
-    said[5] = f;
-    said[6] = g;
-    0
+    [
+        kind,
+        u64::from(c.stamp),
+        u64::from(c.number.0),
+        c.elapsed.0,
+        u64::from(c.packets.0),
+        c.octets.0,
+        0,
+    ]
 }
 
 // Reads a frame. Answers 0 and writes seven numbers: one more than the PDU type, stamp, packet number, elapsed octets, total
@@ -38,62 +35,29 @@ fn put_seven(said: &mut [u64], a: u64, b: u64, c: u64, d: u64, e: u64, f: u64, g
 pub fn read_numbers(frame: &[u8], said: &mut [u64]) -> u64
     ensures { ReadOut (read_paper (read_frame frame.now)) said.old result said.new }
 {
-    let read = read_frame(frame);
-    match read {
-        Read::Refused(r) => refusal_in_one(r),
-        Read::Data(d) => put_seven(
-            said,
+    let values = match read_frame(frame) {
+        Read::Refused(r) => return r.in_one(),
+        Read::Data(d) => [
             2,
-            d.stamp as u64,
-            d.number.0 as u64,
+            u64::from(d.stamp),
+            u64::from(d.number.0),
             d.elapsed.0,
             0,
             0,
             d.length.0,
-        ),
-        Read::Closing(c) => put_seven(
-            said,
-            1,
-            c.stamp as u64,
-            c.number.0 as u64,
-            c.elapsed.0,
-            c.packets.0 as u64,
-            c.octets.0,
-            0,
-        ),
-        Read::ClosingWithLengths(c) => put_seven(
-            said,
-            4,
-            c.stamp as u64,
-            c.number.0 as u64,
-            c.elapsed.0,
-            c.packets.0 as u64,
-            c.octets.0,
-            0,
-        ),
-    }
-}
-
-// How a frame was written, in one number.
-fn written_in_one(w: Written) -> u64
-    requires { (written_paper w).count ≤ most_counted }
-    ensures { result ≡ in_one (written_paper w) }
-{
-    match w {
-        Written::Refused(r) => refusal_in_one(r),
-        Written::Done(n) => 256 * (n as u64),
-    }
+        ],
+        Read::Closing(c) => closing_values(1, c),
+        Read::ClosingWithLengths(c) => closing_values(4, c),
+    };
+    u64::from(number_of(put_in_front(said, values)))
 }
 
 // The lengths of a Type 3 frame, in front of a lent list. A frame of another type has none. A refusal has both checks of 4 and 7.
+#[tactic(auto, unfolding(numbers::specs::Answers::in_one, frame::specs::Paper::written_paper, frame::specs::Paper::listed_paper))]
 pub fn lengths_in_one(frame: &[u8], lengths: &mut [u16]) -> u64
     ensures { ListsInOne frame.now lengths.old result lengths.new }
 {
-    let listed = read_lengths(frame, lengths);
-    match listed {
-        Listed::Refused(r) => refusal_in_one(r),
-        Listed::Lengths(n) => 256 * (n.0 as u64),
-    }
+    in_one(read_lengths(frame, lengths).map(|n| n.0 as usize))
 }
 
 // Writes a data PDU (Type 1).
@@ -103,8 +67,7 @@ pub fn data_in_one(stamp: u32, number: u32, elapsed: u64, payload: &[u8], out: &
         (data_frame stamp number elapsed payload.now)
         out.old result out.new }
 {
-    let written = write_data(stamp, Packets(number), Octets(elapsed), payload, out);
-    written_in_one(written)
+    in_one(write_data(stamp, Packets(number), Octets(elapsed), payload, out))
 }
 
 fn closing_given(stamp: u32, number: u32, elapsed: u64, packets: u32, octets: u64) -> ClosingPdu
@@ -134,8 +97,7 @@ pub fn closing_in_one(
         out.old result out.new }
 {
     let c = closing_given(stamp, number, elapsed, packets, octets);
-    let written = write_closing(c, out);
-    written_in_one(written)
+    in_one(write_closing(c, out))
 }
 
 // Writes a closing PDU with the length of each packet (Type 3).
@@ -154,6 +116,5 @@ pub fn closing_with_lengths_in_one(
         out.old result out.new }
 {
     let given = closing_given(stamp, number, elapsed, packets, octets);
-    let written = write_closing_with_lengths(given, lengths, out);
-    written_in_one(written)
+    in_one(write_closing_with_lengths(given, lengths, out))
 }

@@ -1,5 +1,5 @@
 -- The head of a record as C and Rust keep it: a list of six numbers. Assumes nothing.
-use Rattle.std.specs.Prelude.{ℕ, false, cond, List, [], ◌∷◌, length, get_or, ltb, eqb}
+use Rattle.std.specs.Prelude.{ℕ, false, cond, List, [], ◌∷◌, length, get_or, ltb, eqb, Result, Ok, Err}
 use Rattle.fields.specs.Choice.{◌when◌otherwise◌}
 use Rattle.fields.specs.Runs.{front}
 use Rattle.reception.specs.declared.Head.{Head}
@@ -35,3 +35,8 @@ numbers_of h = h.bearer ∷ h.period ∷ h.stamp ∷ cond h.closed 1 0 ∷ h.cou
 -- a list that held old, with a head's numbers in front where it has room for them
 abbrev pub with_head : List ℕ → Head → List ℕ
 with_head old h = old when ltb (length old) 6 otherwise front old (numbers_of h)
+
+-- the list of a head after an answer: the head's numbers in front; or, refused, what it held
+abbrev pub head_after : {E : Type 0} → Result Unit E → List ℕ → Head → List ℕ
+head_after (Ok u) old h = front old (numbers_of h)
+head_after (Err r) old h = old

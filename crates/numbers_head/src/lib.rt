@@ -2,11 +2,11 @@
 // closing's packets, its octets).
 #![tactic(auto)]
 
-ghost use Rattle.std.specs.Prelude.{◌≡◌, cond};
-ghost use Rattle.numbers_head.specs.Heads.{no_head, head_of, with_head};
+ghost use Rattle.std.specs.Prelude.{◌≡◌, ◌<◌, ◌≤◌, MatchOption, eqb, length};
+ghost use Rattle.numbers_head.specs.Heads.{no_head, head_of, numbers_of, with_head, head_after};
 
-use numbers::WIDEST;
-use reception::Head;
+use numbers::put_in_front;
+use reception::{Answered, Head};
 use units::{Octets, Packets};
 
 // The head that stands for numbers that are no head's.
@@ -16,73 +16,75 @@ fn no_head() -> Head
     Head {
         bearer: 0,
         period: 0,
-        stamp: 4294967295,
+        stamp: u32::MAX,
         closed: false,
         count: Packets(0),
         total: Octets(0),
     }
 }
 
-// The head that a list of six numbers says.
-#[tactic(auto, using(crate::proofs::HeadsSaid::few_numbers, crate::proofs::HeadsSaid::wide_bearer, crate::proofs::HeadsSaid::wide_period, crate::proofs::HeadsSaid::wide_stamp, crate::proofs::HeadsSaid::odd_closed, crate::proofs::HeadsSaid::wide_count, crate::proofs::HeadsSaid::a_head))]
-pub fn head_of(numbers: &[u64]) -> Head
-    ensures { result ≡ head_of numbers.now }
+// Whether closed, as a number.
+fn closed_in(n: u64) -> Option<bool>
+    ensures { MatchOption result (1 < n) (λ c. (n ≤ 1) × (c ≡ eqb n 1)) }
 {
-    if numbers.len() < 6 {
-        return no_head();
-    }
-    let bearer = numbers[0];
-    let period = numbers[1];
-    let stamp = numbers[2];
-    let closed = numbers[3];
-    let count = numbers[4];
-    if WIDEST < bearer {
-        return no_head();
-    }
-    if WIDEST < period {
-        return no_head();
-    }
-    if WIDEST < stamp {
-        return no_head();
-    }
-    if 1 < closed {
-        return no_head();
-    }
-    if WIDEST < count {
-        return no_head();
-    }
-    Head {
-        bearer: bearer as u32,
-        period: period as u32,
-        stamp: stamp as u32,
-        closed: closed == 1,
-        count: Packets(count as u32),
-        total: Octets(numbers[5]),
+    match n {
+        0 => Some(false),
+        1 => Some(true),
+        _ => None,
     }
 }
 
-// One where closed.
-fn closed_number(h: Head) -> u64
-    ensures { result ≡ cond h.closed 1 0 }
+// The head in front of a list, where its numbers are one's.
+#[tactic(auto, unfolding(crate::specs::Heads::head_of))]
+fn head_in(numbers: &[u64]) -> Option<Head>
+    ensures { MatchOption result (head_of numbers.now ≡ no_head) (λ h. h ≡ head_of numbers.now) }
 {
-    if h.closed {
-        return 1;
-    }
-    0
+    let [bearer, period, stamp, closed, count, total] = *numbers.first_chunk::<6>()?;
+    Some(Head {
+        bearer: u32::try_from(bearer).ok()?,
+        period: u32::try_from(period).ok()?,
+        stamp: u32::try_from(stamp).ok()?,
+        closed: closed_in(closed)?,
+        count: Packets(u32::try_from(count).ok()?),
+        total: Octets(total),
+    })
+}
+
+// The head that a list of six numbers says.
+pub fn head_of(numbers: &[u64]) -> Head
+    ensures { result ≡ head_of numbers.now }
+{
+    head_in(numbers).unwrap_or(no_head())
+}
+
+// A head's six numbers.
+fn numbers_of(h: Head) -> [u64; 6]
+    ensures { result ≡ numbers_of h }
+{
+    [
+        u64::from(h.bearer),
+        u64::from(h.period),
+        u64::from(h.stamp),
+        u64::from(h.closed),
+        u64::from(h.count.0),
+        h.total.0,
+    ]
 }
 
 // A head's numbers in front of a list that has room for them.
 pub fn put_head(numbers: &mut [u64], h: Head)
     ensures { numbers.new ≡ with_head numbers.old h }
 {
-    if numbers.len() < 6 {
-        return;
-    }
-    let closed = closed_number(h);
-    numbers[0] = h.bearer as u64;
-    numbers[1] = h.period as u64;
-    numbers[2] = h.stamp as u64;
-    numbers[3] = closed;
-    numbers[4] = h.count.0 as u64;
-    numbers[5] = h.total.0;
+    let _ = put_in_front(numbers, numbers_of(h));
+}
+
+// Puts the head after a call that was accepted, and hands the call's answer on.
+pub fn keep<E>(numbers: &mut [u64], t: Answered<E>) -> Result<(), E>
+    requires { 6 ≤ length numbers.old }
+    ensures value { result ≡ t.answer }
+    ensures head_after { numbers.new ≡ head_after t.answer numbers.old t.head }
+{
+    t.answer?;
+    put_head(numbers, t.head);
+    Ok(())
 }

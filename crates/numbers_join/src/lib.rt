@@ -1,24 +1,28 @@
 // Joins of records as C and Rust keep them: the answer in one number.
 #![tactic(auto)]
 
-ghost use Rattle.std.specs.Prelude.{◌≡◌, ◌+◌, ◌*◌, ◌≤◌};
-ghost use Rattle.units.specs.Refusals.{contradiction};
+ghost use Rattle.std.specs.Prelude.{◌≡◌, ◌≤◌};
 ghost use Rattle.reception.specs.Hearing.{kept_in};
-ghost use Rattle.reception.specs.Joining.{join_records};
+ghost use Rattle.reception.specs.Joining.{join_records, joined_paper};
 ghost use Rattle.numbers_head.specs.Heads.{head_of};
-ghost use Rattle.numbers_join.specs.Joins.{KeepsJoined};
+ghost use Rattle.numbers_join.specs.Joins.{join_number, KeepsJoined};
 
 use joining::join;
-use numbers_head::{head_of, put_head};
-use reception::Joined;
-use units::refusals::{CAPACITIES_DIFFER, CONTRADICTION};
+use numbers_head::{head_of, keep};
+use reception::NotJoined;
+use units::Refusal;
 
-// Refusal 11 and the number that it names, which has at most 17 bits.
-fn named(n: u32) -> u32
-    requires { n ≤ 65536 }
-    ensures { result ≡ contradiction + 256 * n }
+// A join's answer in one number: 0, or the refusal's, and with 11, 256 times the number that it names, which has at most 17 bits.
+#[tactic(auto, unfolding(reception::specs::Joining::joined_paper))]
+fn in_one(answer: Result<(), NotJoined>) -> u32
+    requires { (joined_paper answer).named ≤ 65536 }
+    ensures { result ≡ join_number answer }
 {
-    CONTRADICTION as u32 + 256 * n
+    match answer {
+        Ok(()) => 0,
+        Err(NotJoined::Refused(r)) => u32::from(r.number()),
+        Err(NotJoined::Contradicts(n)) => u32::from(Refusal::Contradiction.number()) + 256 * n,
+    }
 }
 
 // Joins a right record into a left one. Answers 0, or a refusal's number; with 11, the number that it names times 256 is added.
@@ -38,23 +42,11 @@ pub fn join_in_one(
         (kept_in (head_of r_head.now) r_marks.now r_elapsed.now r_sizes.now))
         result head.new marks.new elapsed.new sizes.new }
 {
-    if head.len() < 6 {
-        return CAPACITIES_DIFFER as u32;
-    }
-    if r_head.len() < 6 {
-        return CAPACITIES_DIFFER as u32;
+    if head.len() < 6 || r_head.len() < 6 {
+        return u32::from(Refusal::CapacitiesDiffer.number());
     }
     let h = head_of(head);
     let g = head_of(r_head);
     let t = join(h, marks, elapsed, sizes, g, r_marks, r_elapsed, r_sizes);
-    let after = t.head;
-    let answer = t.answer;
-    match answer {
-        Joined::Refused(r) => r.number as u32,
-        Joined::Contradicted(n) => named(n),
-        Joined::Done => {
-            put_head(head, after);
-            0
-        }
-    }
+    in_one(keep(head, t))
 }

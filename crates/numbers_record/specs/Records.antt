@@ -3,18 +3,10 @@
 use Rattle.std.specs.Prelude.{ℕ, ◌≡◌, List, length, ltb}
 use Rattle.units.specs.Refusals.{capacities_differ}
 use Rattle.fields.specs.Choice.{◌when◌otherwise◌}
-use Rattle.fields.specs.Runs.{front}
-use Rattle.reception.specs.declared.Head.{Head}
-use Rattle.reception.specs.declared.Taken.{Taken}
-use Rattle.reception.specs.declared.Taken.TheVariants.{Done, Refused}
+use Rattle.reception.specs.Answers.{Taken}
 use Rattle.reception.specs.Hearing.{Kept, Outcome}
 use Rattle.reception.specs.Several.{answers_after}
-use Rattle.numbers_head.specs.Heads.{numbers_of}
-
--- the list of a head after an answer: the head's numbers in front; or, refused, what it held
-abbrev pub head_after : Taken → List ℕ → Head → List ℕ
-head_after Done old h = front old (numbers_of h)
-head_after (Refused r) old h = old
+use Rattle.numbers_head.specs.Heads.{head_after}
 
 -- the promise about a record k whose head stands in the list old, where `as_number` is how an answer is given as a number: 14 where the list has
 -- fewer than six numbers, otherwise what t says

@@ -9,11 +9,10 @@ ghost use Rattle.numbers_head.specs.Heads.{head_of};
 ghost use Rattle.numbers_record.specs.Records.{Keeps, AnswersOut};
 
 use hearing::{fresh, hear};
-use numbers_head::{head_of, put_head};
-use reception::Taken;
-use several::hear_sequence;
-use units::refusal_in_one;
-use units::refusals::CAPACITIES_DIFFER;
+use numbers::number_of;
+use numbers_head::{head_of, keep};
+use several::{answer_of, hear_sequence};
+use units::Refusal;
 
 // Makes an empty record of a key. Answers 0, or a refusal's number.
 pub fn fresh_record(
@@ -31,18 +30,10 @@ pub fn fresh_record(
         result head.new marks.new elapsed.new sizes.new }
 {
     if head.len() < 6 {
-        return CAPACITIES_DIFFER;
+        return Refusal::CapacitiesDiffer.number();
     }
     let t = fresh(bearer, period, stamp, marks, elapsed, sizes);
-    let after = t.head;
-    let answer = t.answer;
-    match answer {
-        Taken::Refused(r) => r.number,
-        Taken::Done => {
-            put_head(head, after);
-            0
-        }
-    }
+    number_of(keep(head, t))
 }
 
 // Takes a frame into a record. Answers 0, or a refusal, with both checks of 4 and 7.
@@ -60,20 +51,12 @@ pub fn hear_frame(
         (hear_frame (kept_in (head_of head.old) marks.old elapsed.old sizes.old) bearer period frame.now)
         result head.new marks.new elapsed.new sizes.new }
 {
+    // Kept: the head that stands for fewer numbers is damaged, which is 13, and here the answer is 14.
     if head.len() < 6 {
-        return CAPACITIES_DIFFER as u64;
+        return u64::from(Refusal::CapacitiesDiffer.number());
     }
-    let h = head_of(head);
-    let t = hear(h, marks, elapsed, sizes, bearer, period, frame);
-    let after = t.head;
-    let answer = t.answer;
-    match answer {
-        Taken::Refused(r) => refusal_in_one(r),
-        Taken::Done => {
-            put_head(head, after);
-            0
-        }
-    }
+    let t = hear(head_of(head), marks, elapsed, sizes, bearer, period, frame);
+    answer_of(keep(head, t))
 }
 
 // Hears many frames into an empty record of a key: they stand in one row of octets, and each is given by the place where it ends.
@@ -102,18 +85,10 @@ pub fn hear_all(
         answers.old answers.new }
 {
     if head.len() < 6 {
-        return CAPACITIES_DIFFER;
+        return Refusal::CapacitiesDiffer.number();
     }
     let t = hear_sequence(
         bearer, period, stamp, marks, elapsed, sizes, octets, ends, answers,
     );
-    let after = t.head;
-    let answer = t.answer;
-    match answer {
-        Taken::Refused(r) => r.number,
-        Taken::Done => {
-            put_head(head, after);
-            0
-        }
-    }
+    number_of(keep(head, t))
 }

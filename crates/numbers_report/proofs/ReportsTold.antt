@@ -7,17 +7,20 @@ use mathlib.Core.List.{List}
 use lib.Dec.{ltb}
 use lib.ListN.{length}
 use borrow.Author.Tests.{lt-ltb, le-ltb}
-use Rattle.units.specs.declared.Refusal.{Refusal}
-use Rattle.units.specs.Refusals.{no_room, record_damaged, capacities_differ}
+use Rattle.units.specs.declared.refusals.Refusal.{Refusal}
+use Rattle.units.specs.Refusals.{number_of, no_room, record_damaged, capacities_differ}
+use Rattle.units.specs.declared.refusals.Refusal.TheVariants.{NoRoom}
+use Rattle.fields.specs.Choice.{◌when◌otherwise◌}
 use Rattle.fields.specs.Runs.{front}
 use Rattle.fields.proofs.Tests.{either}
 use Rattle.reception.specs.declared.Report.{Report}
-use Rattle.reception.specs.declared.Reported.{Reported}
-use Rattle.reception.specs.declared.Reported.TheVariants.{Done, Refused}
+use Rattle.reception.specs.Answers.{Reported}
 use Rattle.reception.specs.Hearing.{Kept, held_by, unmatched, damaged_kept}
 use Rattle.reception.specs.Reporting.{gaps_of, report_record, room_of, Reports}
 use Rattle.reception.proofs.OnePaper.{reported_known}
+use Rattle.numbers.specs.Answers.{number_told}
 use Rattle.numbers_report.specs.Reports.{figures_of, report_number, no_figures, figures_after, Figures}
+use Rattle.std.specs.Prelude.{Result, Ok, Err}
 
 -- where no figures can be written, the refusals of the record come first
 module _ (k : Kept) where
@@ -47,16 +50,10 @@ module _ (k : Kept) where
       (either (unmatched k))
 
   figures_kept : (t : Reported) (old : List ℕ) → length old < 7 → figures_after t old ≡ old
-  figures_kept (Refused x) old h = refl
-  figures_kept (Done r) old h = rw (lt-ltb (length old) 7 h) refl
+  figures_kept (Err x) old h = refl
+  figures_kept (Ok r) old h = rw (lt-ltb (length old) 7 h) refl
 
-  -- a head too short, and a list of figures too short
-  pub short_head : (head firsts counts octets figures : List ℕ) → length head < 6
-      → Figures head k firsts counts octets figures capacities_differ firsts counts octets figures
-  short_head head firsts counts octets figures h =
-      let q = lt-ltb (length head) 6 h in
-      record { says = rw q refl; leaves_figures = rw q refl; leaves_firsts = rw q refl; leaves_counts = rw q refl; leaves_octets = rw q refl }
-
+  -- a list of figures too short
   pub short_figures : (head firsts counts octets figures : List ℕ) (r : ℕ) → 6 ≤ length head → length figures < 7 → r ≡ no_figures k
       → Figures head k firsts counts octets figures r firsts counts octets figures
   short_figures head firsts counts octets figures r h g e =
@@ -86,11 +83,12 @@ module _ (k : Kept) where
           leaves_octets = p.leaves_octets ∙ rw (q, f) refl;
         }
 
-    pub told_refused : (x : Refusal) → t ≡ Refused x → Figures head k firsts counts octets figures x.number firsts' counts' octets' figures
-    told_refused x e = told x.number figures (rw e refl) (rw e refl)
+    pub told_refused : (x : Refusal) → t ≡ Err x → Figures head k firsts counts octets figures (number_of x) firsts' counts' octets' figures
+    told_refused x e = told (number_of x) figures (rw e refl) (rw e refl)
 
-    pub told_report : (x : Report) (figures' : List ℕ) → t ≡ Done x → figures' ≡ front figures (figures_of x)
-        → Figures head k firsts counts octets figures 0 firsts' counts' octets' figures'
-    told_report x figures' e l =
+    pub told_report : (x : Report) (a : Result Unit Refusal) (n : ℕ) (vs figures' : List ℕ) → t ≡ Ok x → vs ≡ figures_of x
+        → a ≡ (Err NoRoom when ltb (length figures) 7 otherwise Ok tt) → n ≡ number_told a → figures' ≡ (figures when ltb (length figures) 7 otherwise front figures vs)
+        → Figures head k firsts counts octets figures n firsts' counts' octets' figures'
+    told_report x a n vs figures' e v s m l =
         let f = le-ltb (length figures) 7 g in
-        told 0 figures' (rw (e, f) refl) (l ∙ rw (e, f) refl)
+        told n figures' (m ∙ rw (s, e, f) refl) (l ∙ rw (e, f, v) refl)

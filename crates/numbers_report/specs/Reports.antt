@@ -1,11 +1,10 @@
 -- A report as C and Rust get it: seven figures in a lent list, beside the three lists of gaps. Assumes nothing.
-use Rattle.std.specs.Prelude.{ℕ, ◌≡◌, List, [], ◌∷◌, ltb, length}
-use Rattle.units.specs.Refusals.{no_room, record_damaged, capacities_differ}
+use Rattle.std.specs.Prelude.{ℕ, ◌≡◌, List, [], ◌∷◌, ltb, length, Ok, Err}
+use Rattle.units.specs.Refusals.{number_of, no_room, record_damaged, capacities_differ}
 use Rattle.fields.specs.Choice.{◌when◌otherwise◌}
 use Rattle.fields.specs.Runs.{front}
 use Rattle.reception.specs.declared.Report.{Report}
-use Rattle.reception.specs.declared.Reported.{Reported}
-use Rattle.reception.specs.declared.Reported.TheVariants.{Done, Refused}
+use Rattle.reception.specs.Answers.{Reported}
 use Rattle.reception.specs.Hearing.{Kept, held_by, unmatched, damaged_kept}
 use Rattle.reception.specs.Reporting.{Gap, gaps_of, gaps_after, report_record, room_of}
 
@@ -16,8 +15,8 @@ figures_of r =
 
 -- the number of the answer, where so many figures can be written
 abbrev pub report_number : ℕ → Reported → ℕ
-report_number room (Refused x) = x.number
-report_number room (Done r) = no_room when ltb room 7 otherwise 0
+report_number room (Err x) = (number_of x)
+report_number room (Ok r) = no_room when ltb room 7 otherwise 0
 
 -- why there is no report where no figures can be written: "Report: 14, 13, 12"
 unfoldable pub no_figures : Kept → ℕ
@@ -28,8 +27,8 @@ no_figures k =
 
 -- the figures after: in front, where there is room and the report was made
 abbrev pub figures_after : Reported → List ℕ → List ℕ
-figures_after (Refused x) old = old
-figures_after (Done r) old = old when ltb (length old) 7 otherwise front old (figures_of r)
+figures_after (Err x) old = old
+figures_after (Ok r) old = old when ltb (length old) 7 otherwise front old (figures_of r)
 
 -- one of a gap's three numbers after, where there was room for the figures
 abbrev pub gaps_out : List ℕ → Reported → (Gap → ℕ) → List Gap → List ℕ → List ℕ

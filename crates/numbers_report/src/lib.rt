@@ -2,43 +2,53 @@
 // three more.
 #![tactic(auto)]
 
-ghost use Rattle.std.specs.Prelude.{◌≡◌, ◌≤◌, length};
-ghost use Rattle.fields.specs.Runs.{front};
+ghost use Rattle.std.specs.Prelude.{◌≡◌};
+ghost use Rattle.units.specs.Refusals.{number_of};
 ghost use Rattle.reception.specs.Hearing.{kept_in};
 ghost use Rattle.numbers_head.specs.Heads.{head_of};
 ghost use Rattle.numbers_report.specs.Reports.{figures_of, no_figures, Figures};
 
 use damage::{is_damaged, lists_differ};
+use numbers::{number_of, put_in_front};
 use numbers_head::head_of;
-use reception::{Head, Report, Reported};
+use reception::record::Record;
+use reception::{Head, Report};
 use reporting::report;
-use units::refusals::{CAPACITIES_DIFFER, NO_ROOM, RECORD_DAMAGED};
+use units::Refusal;
 
-// The figures of a report in front of a list.
-fn put_figures(figures: &mut [u64], r: Report)
-    requires { 7 ≤ length figures.old }
-    ensures { figures.new ≡ front figures.old (figures_of r) }
+// The figures of a report.
+fn figures_of(r: Report) -> [u64; 7]
+    ensures { result ≡ figures_of r }
 {
-    figures[0] = r.sent.0 as u64;
-    figures[1] = r.sent_octets.0;
-    figures[2] = r.heard.0 as u64;
-    figures[3] = r.heard_octets.0;
-    figures[4] = r.missing.0 as u64;
-    figures[5] = r.missing_octets.0;
-    figures[6] = r.gaps as u64;
+    [
+        u64::from(r.sent.0),
+        r.sent_octets.0,
+        u64::from(r.heard.0),
+        r.heard_octets.0,
+        u64::from(r.missing.0),
+        r.missing_octets.0,
+        u64::from(r.gaps),
+    ]
 }
 
 // Why there is no report where no figures can be written.
-fn refusal_of(h: Head, marks: &[u8], elapsed: &[u32], sizes: &[u16]) -> u8
-    ensures { result ≡ no_figures (kept_in h marks.now elapsed.now sizes.now) }
+#[tactic(auto, using(reception::proofs::KeptAsHeld::lists_matched), unfolding(crate::specs::Reports::no_figures))]
+fn refusal_of(h: Head, marks: &[u8], elapsed: &[u32], sizes: &[u16]) -> Refusal
+    ensures { number_of result ≡ no_figures (kept_in h marks.now elapsed.now sizes.now) }
 {
     if lists_differ(marks.len(), elapsed.len(), sizes.len()) {
-        return CAPACITIES_DIFFER;
+        return Refusal::CapacitiesDiffer;
     }
-    if is_damaged(h, marks, elapsed, sizes) {
-        return RECORD_DAMAGED;
+    let kept = Record {
+        head: h,
+        marks,
+        elapsed,
+        sizes,
+    };
+    if is_damaged(&kept) {
+        return Refusal::RecordDamaged;
     }
-    NO_ROOM
+    Refusal::NoRoom
 }
 
 // Reports on a record. Answers 0, or a refusal's number.
@@ -58,18 +68,14 @@ pub fn report_figures(
         result firsts.new counts.new octets.new figures.new }
 {
     if head.len() < 6 {
-        return CAPACITIES_DIFFER;
+        return Refusal::CapacitiesDiffer.number();
     }
     let h = head_of(head);
     if figures.len() < 7 {
-        return refusal_of(h, marks, elapsed, sizes);
+        return refusal_of(h, marks, elapsed, sizes).number();
     }
-    let answer = report(h, marks, elapsed, sizes, firsts, counts, octets);
-    match answer {
-        Reported::Refused(r) => r.number,
-        Reported::Done(r) => {
-            put_figures(figures, r);
-            0
-        }
+    match report(h, marks, elapsed, sizes, firsts, counts, octets) {
+        Err(r) => r.number(),
+        Ok(r) => number_of(put_in_front(figures, figures_of(r))),
     }
 }

@@ -1,48 +1,32 @@
 -- How the answers of a sender's calls meet the promises. Assumes nothing.
-use Prim.Native.Nat.{ℕ, ◌≤◌, ◌<◌}
-use mathlib.Core.Path.{◌≡◌, refl, ◌∙◌}
+use Prim.Native.Nat.{ℕ}
+use mathlib.Core.Path.{◌≡◌, refl, ap, ◌∙◌}
 use mathlib.Core.List.{List}
 use native.Mathlib.Omega.{arith}
 use lib.ListN.{length}
-use borrow.Author.Tests.{lt-ltb, le-ltb}
-use Rattle.units.specs.declared.Refusal.{Refusal}
-use Rattle.units.specs.Refusals.{no_room, sender_damaged}
+use Rattle.units.specs.declared.refusals.Refusal.{Refusal}
 use Rattle.fields.proofs.Choosing.{whatever}
-use Rattle.frame.specs.declared.Written.{Written}
-use Rattle.frame.specs.declared.Written.TheVariants.{Done, Refused}
+use Rattle.frame.specs.Answers.{Written}
 use Rattle.frame.specs.Paper.{written_paper}
 use Rattle.frame.proofs.OnePaper.{written_known}
+use Rattle.frame.specs.Writing.{after}
 use Rattle.sender.specs.declared.Sender.{Sender}
-use Rattle.sender.specs.declared.Dispatch.{Dispatch}
-use Rattle.sender.specs.declared.Turned.{Turned}
-use Rattle.sender.specs.declared.Turned.TheVariants.{Done as TurnDone, Refused as NotTurned}
-use Rattle.sender.specs.declared.Turning.{Turning}
-use Rattle.sender.specs.State.{fresh_sender}
-use Rattle.sender.specs.Calls.{data_call, close_call, close_with_call, turned_paper, Turns, Sends}
+use Rattle.sender.specs.Answers.{Dispatch, Turned, Turning}
+use Rattle.sender.specs.State.{damaged}
+use Rattle.sender.specs.Calls.{open_call, renew_call, data_call, close_call, close_with_call, turned_paper, Turns, Sends}
 use Rattle.sender.proofs.OnePaper.{turned_known}
 use Rattle.sender.proofs.RefusedOrAccepted.{data_comes, close_comes, close_with_comes}
 use Rattle.sender.proofs.Undamaged.{undamaged}
-use Rattle.numbers.specs.Answers.{in_one}
-use Rattle.numbers_state.specs.States.{with_state}
-use Rattle.numbers_sender.specs.Senders.{turned_state, sent_state, MakesFresh, TurnsState, SendsState}
+use Rattle.numbers.specs.Answers.{in_one, number_told}
+use Rattle.numbers_state.specs.States.{no_state, sender_of, with_state}
+use Rattle.numbers_sender.specs.Senders.{state_after, TurnsState, SendsState}
 use Rattle.numbers.proofs.InOne.{Few, lengths_few}
-
--- a turn's number and the state after it
-module _ (a : Turned) where
-  pub turn_refused : (x : Refusal) (old : List ℕ) (s : Sender) → a ≡ NotTurned x → (x.number ≡ (turned_paper a).number) × (old ≡ turned_state a old s)
-  unfolding turned_paper
-  turn_refused x old s e = (rw e refl, rw e refl)
-
-  pub turn_done : (old new : List ℕ) (s : Sender) → 6 ≤ length old → a ≡ TurnDone → new ≡ with_state old s → (0 ≡ (turned_paper a).number) × (new ≡ turned_state a old s)
-  unfolding turned_paper
-  turn_done old new s h e l = (rw e refl, l ∙ rw (e, le-ltb (length old) 6 h) refl)
-
--- the state after a frame was written, or refused
-pub sent_refused : (w : Written) (x : Refusal) (old : List ℕ) (s : Sender) → w ≡ Refused x → old ≡ sent_state w old s
-sent_refused w x old s e = rw e refl
-
-pub sent_done : (w : Written) (n : ℕ) (old new : List ℕ) (s : Sender) → 6 ≤ length old → w ≡ Done n → new ≡ with_state old s → new ≡ sent_state w old s
-sent_done w n old new s h e l = l ∙ rw (e, le-ltb (length old) 6 h) refl
+use Rattle.std.specs.Prelude.{Result, Ok, Err, MatchResult}
+use Rattle.units.specs.declared.refusals.Refusal.TheVariants.{SenderDamaged}
+use mathlib.Core.Bool.{true, false}
+use mathlib.Core.Logic.{⊎_elim}
+use lib.Dec.{ltb}
+use Rattle.fields.proofs.Tests.{either}
 
 -- no frame that the sender writes has more octets than can be answered
 abbrev pub FewSent : Dispatch → Type 0
@@ -62,31 +46,68 @@ few_closed_with s ls room =
     whatever FewSent (close_with_comes s ls room) (λ _. omega arith)
     (λ g. lengths_few ls s.number.0 s.elapsed.0 g.listed (undamaged s g.whole).number)
 
--- a list too short for a state, and one that has room
-pub short_fresh : (old : List ℕ) → length old < 6 → MakesFresh old no_room old
-short_fresh old h = let q = lt-ltb (length old) 6 h in record { says = rw q refl; leaves = rw q refl }
+-- a list too short for a state says a damaged sender
+module _ (old : List ℕ) (h : ltb (length old) 6 ≡ true) where
+  none_said : damaged (sender_of old) ≡ true
+  unfolding sender_of no_state damaged
+  none_said = rw h refl
 
-pub made_fresh : (old new : List ℕ) → 6 ≤ length old → new ≡ with_state old fresh_sender → MakesFresh old 0 new
-made_fresh old new h l = let q = le-ltb (length old) 6 h in record { says = rw q refl; leaves = l ∙ rw q refl }
+  pub short_open : (stamp : ℕ) → (open_call (sender_of old) stamp).answer ≡ Err SenderDamaged
+  unfolding open_call
+  short_open stamp = rw none_said refl
 
-pub short_turn : (old : List ℕ) (t : Turning) → length old < 6 → TurnsState old t sender_damaged old
-short_turn old t h = let q = lt-ltb (length old) 6 h in record { says = rw q refl; leaves_state = rw q refl }
+  pub short_renew : (renew_call (sender_of old)).answer ≡ Err SenderDamaged
+  unfolding renew_call
+  short_renew = rw none_said refl
 
-pub turned : (old new : List ℕ) (t r : Turning) (x : ℕ) → 6 ≤ length old → Turns t r → x ≡ (turned_paper r.answer).number → new ≡ turned_state r.answer old r.sender
-    → TurnsState old t x new
-turned old new t r x h p e l =
-    let q = le-ltb (length old) 6 h in
-    let a = turned_known r.answer t.answer p.says in
-    record { says = e ∙ rw (q, a) refl; leaves_state = l ∙ rw (q, a, p.next) refl }
+  pub short_data : (l room : ℕ) → (data_call (sender_of old) l room).answer ≡ Err SenderDamaged
+  unfolding data_call
+  short_data l room = rw none_said refl
 
-pub short_send : (old : List ℕ) (t : Dispatch) (frame out : List ℕ) → length old < 6 → SendsState old t frame out sender_damaged old out
-short_send old t frame out h =
-    let q = lt-ltb (length old) 6 h in
-    record { says = rw q refl; leaves_state = rw q refl; leaves_out = rw q refl }
+  pub short_close : (room : ℕ) → (close_call (sender_of old) room).answer ≡ Err SenderDamaged
+  unfolding close_call
+  short_close room = rw none_said refl
 
-pub sent : (old new : List ℕ) (t r : Dispatch) (frame out out' : List ℕ) (x : ℕ) → 6 ≤ length old → Sends t frame out r out' → x ≡ in_one (written_paper r.answer)
-    → new ≡ sent_state r.answer old r.sender → SendsState old t frame out x new out'
-sent old new t r frame out out' x h p e l =
-    let q = le-ltb (length old) 6 h in
-    let a = written_known r.answer t.answer p.says in
-    record { says = e ∙ rw (q, a) refl; leaves_state = l ∙ rw (q, a, p.next) refl; leaves_out = p.leaves ∙ rw q refl }
+  pub short_close_with : (ls : List ℕ) (room : ℕ) → (close_with_call (sender_of old) ls room).answer ≡ Err SenderDamaged
+  unfolding close_with_call
+  short_close_with ls room = rw none_said refl
+
+-- what a list holds after a call
+abbrev Kept : {T : Type 0} → Result T Refusal → List ℕ → List ℕ → Sender → Type 0
+Kept a old new s = MatchResult a (λ _. new ≡ with_state old s) (λ _. new ≡ old)
+
+kept_in_room : {T : Type 0} (a : Result T Refusal) (old new : List ℕ) (s : Sender) → ltb (length old) 6 ≡ false → Kept a old new s → new ≡ state_after a old s
+kept_in_room (Ok x) old new s q k = k ∙ rw q refl
+kept_in_room (Err r) old new s q k = k
+
+told : (a : Turned) → number_told a ≡ (turned_paper a).number
+unfolding turned_paper
+told (Ok u) = refl
+told (Err r) = refl
+
+pub turned : (old new : List ℕ) (t r : Turning) (a : Turned) (x : ℕ) → (ltb (length old) 6 ≡ true → t.answer ≡ Err SenderDamaged) → Turns t r → x ≡ number_told a
+    → a ≡ r.answer → Kept r.answer old new r.sender → TurnsState old t x new
+turned old new t r a x h p e f k =
+    let same = turned_known r.answer t.answer p.says in
+    let n : x ≡ number_told t.answer = e ∙ ap number_told (f ∙ same) in
+    let kept : Kept t.answer old new t.sender = rw (same, p.next) at k in
+    ⊎_elim (λ (q : ltb (length old) 6 ≡ true).
+    let g = h q in
+    record { says = n ∙ rw (q, g) refl; leaves_state = (rw g at kept) ∙ rw q refl })
+    (λ (q : ltb (length old) 6 ≡ false).
+    record { says = n ∙ rw q (told t.answer); leaves_state = rw q (kept_in_room _ _ _ _ q kept) })
+    (either (ltb (length old) 6))
+
+pub sent : (old new : List ℕ) (t r : Dispatch) (frame out out' : List ℕ) (a : Written) (x : ℕ) → (ltb (length old) 6 ≡ true → t.answer ≡ Err SenderDamaged)
+    → Sends t frame out r out' → x ≡ in_one (written_paper a) → a ≡ r.answer → Kept r.answer old new r.sender → SendsState old t frame out x new out'
+unfolding in_one written_paper after
+sent old new t r frame out out' a x h p e f k =
+    let same = written_known r.answer t.answer p.says in
+    let n : x ≡ in_one (written_paper t.answer) = e ∙ ap (λ (y : Written). in_one (written_paper y)) (f ∙ same) in
+    let kept : Kept t.answer old new t.sender = rw (same, p.next) at k in
+    ⊎_elim (λ (q : ltb (length old) 6 ≡ true).
+    let g = h q in
+    record { says = n ∙ rw (q, g) refl; leaves_state = (rw g at kept) ∙ rw q refl; leaves_out = p.leaves ∙ rw (q, g) refl })
+    (λ (q : ltb (length old) 6 ≡ false).
+    record { says = n ∙ rw q refl; leaves_state = rw q (kept_in_room _ _ _ _ q kept); leaves_out = p.leaves ∙ rw q refl })
+    (either (ltb (length old) 6))

@@ -2,63 +2,32 @@
 // and octets; the period's packets and octets).
 #![tactic(auto)]
 
-ghost use Rattle.std.specs.Prelude.{◌≡◌};
-ghost use Rattle.numbers_state.specs.States.{phase_of, phase_number, no_state, no_sender, sender_of, with_state};
+ghost use Rattle.std.specs.Prelude.{◌≡◌, ◌<◌, ◌≤◌, MatchOption};
+ghost use Rattle.numbers_state.specs.States.{phase_of, no_sender, sender_of, state_of, with_state};
 
-use numbers::WIDEST;
+use numbers::put_in_front;
 use sender::{Phase, Sender};
 use units::{Octets, Packets};
 
-// The phase that a number of at most 2 says.
-fn phase_of(n: u64) -> Phase
-    ensures { result ≡ phase_of n }
+// The phase that a number says.
+fn phase_in(n: u64) -> Option<Phase>
+    ensures { MatchOption result (2 < n) (λ p. (n ≤ 2) × (p ≡ phase_of n)) }
 {
-    if n == 0 {
-        return Phase::Fresh;
-    }
-    if n == 1 {
-        return Phase::Open;
-    }
-    Phase::Closed
-}
-
-fn phase_number(s: Sender) -> u64
-    ensures { result ≡ phase_number s.phase }
-{
-    let phase = s.phase;
-    match phase {
-        Phase::Fresh => 0,
-        Phase::Open => 1,
-        Phase::Closed => 2,
+    match n {
+        0 => Some(Phase::Fresh),
+        1 => Some(Phase::Open),
+        2 => Some(Phase::Closed),
+        _ => None,
     }
 }
 
-// Whether numbers are no sender's.
-fn no_state(numbers: &[u64]) -> bool
-    ensures { result ≡ no_state numbers.now }
-{
-    if numbers.len() < 6 {
-        return true;
-    }
-    if 2 < numbers[0] {
-        return true;
-    }
-    if WIDEST < numbers[1] {
-        return true;
-    }
-    if WIDEST < numbers[2] {
-        return true;
-    }
-    WIDEST < numbers[4]
-}
-
-// The sender that stands for such numbers.
+// The sender that stands for numbers that are no sender's.
 fn no_sender() -> Sender
     ensures { result ≡ no_sender }
 {
     Sender {
         phase: Phase::Fresh,
-        stamp: 4294967295,
+        stamp: u32::MAX,
         number: Packets(0),
         elapsed: Octets(0),
         packets: Packets(0),
@@ -66,36 +35,46 @@ fn no_sender() -> Sender
     }
 }
 
+// The sender in front of a list, where its numbers are one's.
+#[tactic(auto, unfolding(crate::specs::States::sender_of, crate::specs::States::no_state))]
+fn sender_in(numbers: &[u64]) -> Option<Sender>
+    ensures { MatchOption result (sender_of numbers.now ≡ no_sender) (λ s. s ≡ sender_of numbers.now) }
+{
+    let [phase, stamp, number, elapsed, packets, octets] = *numbers.first_chunk::<6>()?;
+    Some(Sender {
+        phase: phase_in(phase)?,
+        stamp: u32::try_from(stamp).ok()?,
+        number: Packets(u32::try_from(number).ok()?),
+        elapsed: Octets(elapsed),
+        packets: Packets(u32::try_from(packets).ok()?),
+        octets: Octets(octets),
+    })
+}
+
 // The sender that a list of six numbers says.
 pub fn sender_of(numbers: &[u64]) -> Sender
     ensures { result ≡ sender_of numbers.now }
 {
-    if no_state(numbers) {
-        return no_sender();
-    }
-    let phase = phase_of(numbers[0]);
-    Sender {
-        phase,
-        stamp: numbers[1] as u32,
-        number: Packets(numbers[2] as u32),
-        elapsed: Octets(numbers[3]),
-        packets: Packets(numbers[4] as u32),
-        octets: Octets(numbers[5]),
-    }
+    sender_in(numbers).unwrap_or(no_sender())
+}
+
+// A sender's six numbers.
+pub fn state_of(s: Sender) -> [u64; 6]
+    ensures { result ≡ state_of s }
+{
+    [
+        s.phase as u64,
+        u64::from(s.stamp),
+        u64::from(s.number.0),
+        s.elapsed.0,
+        u64::from(s.packets.0),
+        s.octets.0,
+    ]
 }
 
 // A sender's numbers in front of a list that has room for them.
 pub fn put_state(numbers: &mut [u64], s: Sender)
     ensures { numbers.new ≡ with_state numbers.old s }
 {
-    if numbers.len() < 6 {
-        return;
-    }
-    let phase = phase_number(s);
-    numbers[0] = phase;
-    numbers[1] = s.stamp as u64;
-    numbers[2] = s.number.0 as u64;
-    numbers[3] = s.elapsed.0;
-    numbers[4] = s.packets.0 as u64;
-    numbers[5] = s.octets.0;
+    let _ = put_in_front(numbers, state_of(s));
 }

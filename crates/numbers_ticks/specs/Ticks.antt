@@ -1,8 +1,7 @@
 -- The clock as C and Rust get it: an answer with a value in one number. Assumes nothing.
 use Rattle.std.specs.Prelude.{ℕ}
 use Rattle.units.specs.OneNumber.{with_value}
-use Rattle.clock.specs.declared.Moment.{Moment}
-use Rattle.clock.specs.declared.DueTime.{DueTime}
+use Rattle.clock.specs.Answers.{Moment, DueTime}
 use Rattle.clock.specs.Paper.{moment_paper, due_paper}
 
 -- the refusal's number, and 256 times the stamp; one of the two is zero

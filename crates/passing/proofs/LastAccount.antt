@@ -1,6 +1,6 @@
 -- Where no item more is passed: what the input waits for, or the last account behind all of it. Assumes nothing.
 use Prim.Native.Nat.{ℕ, ◌+◌, ◌-◌, ◌≤◌, ◌<◌}
-use mathlib.Core.Path.{◌≡◌, refl, sym, ap, ◌∙◌}
+use mathlib.Core.Path.{◌≡◌, sym, ◌∙◌}
 use mathlib.Core.Logic.{◌⊎◌, inl, inr}
 use mathlib.Core.Bool.{Bool, true, false, true≢false}
 use mathlib.Core.List.{List, [], ◌++◌}
@@ -10,46 +10,45 @@ use lib.Dec.{ltb, leb}
 use lib.ListN.{length, drop, drop_of_length-le}
 use Rattle.fields.specs.Choice.{◌when◌otherwise◌}
 use Rattle.fields.proofs.Tests.{either}
-use Rattle.lines.specs.Text.{Puts}
-use Rattle.lines.proofs.Putting.{puts_then}
-use Rattle.printout.specs.declared.Going.{Going}
+use Rattle.lines.specs.declared.Text.{Text}
+use Rattle.lines.specs.Adding.{room, Adds}
+use Rattle.lines.proofs.Added.{adds_then}
 use Rattle.printout.specs.declared.Went.{Went}
 use Rattle.printout.specs.Printed.{Between, most_text, account_before}
-use Rattle.printout.specs.Stepping.{between_in, Ready}
+use Rattle.printout.specs.Stepping.{between_in}
 use Rattle.items.specs.Items.{longest_item}
 use Rattle.passing.specs.Passing.{goes_on, Told, Passed, Waits}
 use Rattle.passing.proofs.Telling.{told_then, told_last}
-use Rattle.passing.proofs.OneMore.{puts_within}
 
 -- where all is over nothing waits
-pub over_waits : (input : List ℕ) (ended : Bool) (r : Went) (new : List ℕ) → r.stops ≡ true → Waits input ended r new
+pub over_waits : (input : List ℕ) (ended : Bool) (r : Went) (new : Text) → r.stops ≡ true → Waits input ended r new
 over_waits input ended r new s = record { why = λ e. absurd (true≢false (sym s ∙ e)) }
 
 -- no room
-pub room_waits : (input : List ℕ) (ended : Bool) (r : Went) (new : List ℕ) → r.at ≤ length new → length new - r.at < most_text → Waits input ended r new
-room_waits input ended r new i l = record { why = λ e. inl (omega (arith, i, l)) }
+pub room_waits : (input : List ℕ) (ended : Bool) (r : Went) (new : Text) → room new < most_text → Waits input ended r new
+room_waits input ended r new l = record { why = λ e. inl l }
 
 -- what is known where no item is passed, with room
-stays_means : (rest : ℕ) (ended : Bool) (room : ℕ) → most_text ≤ room → goes_on rest ended room false ≡ false → (ltb 0 rest when ended otherwise leb longest_item rest) ≡ false
+stays_means : (rest : ℕ) (ended : Bool) (free : ℕ) → most_text ≤ free → goes_on rest ended free false ≡ false → (ltb 0 rest when ended otherwise leb longest_item rest) ≡ false
 unfolding goes_on
-stays_means rest ended room h e = rw (le-ltb room most_text h) at e
+stays_means rest ended free h e = rw (le-ltb free most_text h) at e
 
 -- more has to be read
-pub read_waits : (input : List ℕ) (ended : Bool) (r : Went) (new : List ℕ) → r.at ≤ length new → r.stops ≡ false → ended ≡ false
-    → goes_on (length input - r.used) ended (length new - r.at) r.stops ≡ false → Waits input ended r new
-read_waits input ended r new i s n g = go (either (ltb (length new - r.at) most_text))
+pub read_waits : (input : List ℕ) (ended : Bool) (r : Went) (new : Text) → r.stops ≡ false → ended ≡ false
+    → goes_on (length input - r.used) ended (room new) r.stops ≡ false → Waits input ended r new
+read_waits input ended r new s n g = go (either (ltb (room new) most_text))
   where
-    go : (ltb (length new - r.at) most_text ≡ true) ⊎ (ltb (length new - r.at) most_text ≡ false) → Waits input ended r new
-    go (inl t) = room_waits input ended r new i (ltb-true _ _ t)
+    go : (ltb (room new) most_text ≡ true) ⊎ (ltb (room new) most_text ≡ false) → Waits input ended r new
+    go (inl t) = room_waits input ended r new (ltb-true _ _ t)
     go (inr t) =
-        let l = leb-false longest_item (length input - r.used) (stays_means (length input - r.used) false (length new - r.at) (ltb-false _ _ t) (rw (s, n) at g)) in
+        let l = leb-false longest_item (length input - r.used) (stays_means (length input - r.used) false (room new) (ltb-false _ _ t) (rw (s, n) at g)) in
         record { why = λ e. inr (n, l) }
 
 -- the last account
-module _ (b : Between) (input : List ℕ) (ended : Bool) (w : Went) (marks elapsed sizes old mid new : List ℕ) (at : ℕ)
-    (p : Passed b input ended w marks elapsed sizes old mid) (s : w.stops ≡ false) (n : ended ≡ true) (h : most_text ≤ length mid - w.at)
-    (g : goes_on (length input - w.used) ended (length mid - w.at) w.stops ≡ false)
-    (q : Puts (account_before (between_in w.going marks elapsed sizes)) mid w.at at new) (same : length new ≡ length mid) where
+module _ (b : Between) (input : List ℕ) (ended : Bool) (w : Went) (marks elapsed sizes : List ℕ) (old mid new : Text)
+    (p : Passed b input ended w marks elapsed sizes old mid) (s : w.stops ≡ false) (n : ended ≡ true) (h : most_text ≤ room mid)
+    (g : goes_on (length input - w.used) ended (room mid) w.stops ≡ false)
+    (q : Adds (account_before (between_in w.going marks elapsed sizes)) most_text mid new) where
   none_left : drop w.used input ≡ []
   none_left =
       let l = ltb-false 0 (length input - w.used) (stays_means _ true _ h (rw (s, n) at g)) in
@@ -61,14 +60,13 @@ module _ (b : Between) (input : List ℕ) (ended : Bool) (w : Went) (marks elaps
       let t : Told b input true p.text false (between_in w.going marks elapsed sizes) [] = rw (s, n, none_left) at p.told in
       rw (n, none_left) (told_then t (told_last (between_in w.going marks elapsed sizes)))
 
-  pub last_told : Passed b input ended (record { going = w.going; at = at; used = w.used; stops = true }) marks elapsed sizes old new
+  pub last_told : Passed b input ended (record w { stops = true }) marks elapsed sizes old new
   last_told =
-      let i = puts_within _ mid w.at at new q p.at_in same in
       record {
         text = p.text ++ account_before (between_in w.going marks elapsed sizes);
-        puts = puts_then (omega arith) p.puts q;
+        most = p.most + most_text;
+        adds = adds_then p.adds q;
         told = all_told;
         ready = p.ready;
         used_in = p.used_in;
-        at_in = omega (arith, i, same);
       }

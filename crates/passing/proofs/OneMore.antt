@@ -1,20 +1,21 @@
 -- One item more: what is told goes on by its text, and it takes octets unless it stops the program. Assumes nothing.
 use Prim.Native.Nat.{ℕ, ◌+◌, ◌-◌, ◌≤◌, ◌<◌}
-use mathlib.Core.Path.{◌≡◌, refl, sym, ap, subst, ◌∙◌}
+use mathlib.Core.Path.{◌≡◌, refl, sym, ap, ◌∙◌}
 use mathlib.Core.Logic.{◌⊎◌, inl, inr}
 use mathlib.Core.Bool.{Bool, true, false, cond, false≢true}
 use mathlib.Core.List.{List, [], ◌++◌}
 use native.Mathlib.Omega.{arith}
 use borrow.Author.Tests.{ltb-true, ltb-false, leb-true}
 use lib.Dec.{ltb, leb}
-use lib.ListN.{length, take, drop, length-append, length-drop}
-use lib.Seq.{length-take-le, drop-drop}
+use lib.ListN.{length, drop, length-drop}
+use lib.Seq.{drop-drop}
 use Rattle.fields.specs.Choice.{◌when◌otherwise◌}
-use Rattle.fields.specs.Runs.{laid}
 use Rattle.fields.proofs.Choosing.{past}
-use Rattle.lines.specs.Text.{Puts}
-use Rattle.lines.proofs.Putting.{puts_none, puts_then}
-use Rattle.items.specs.declared.Item.TheVariants.{Cut}
+use Rattle.lines.specs.declared.Text.{Text}
+use Rattle.lines.specs.Adding.{room, Adds}
+use Rattle.lines.proofs.Added.{adds_none, adds_then}
+use Rattle.std.specs.Prelude.{Err}
+use Rattle.items.specs.declared.NoItem.TheVariants.{Cut}
 use Rattle.items.specs.Items.{longest_item, item_of, size_of}
 use Rattle.items.proofs.Enough.{never_cut, size_there}
 use Rattle.printout.specs.declared.Going.{Going}
@@ -39,16 +40,6 @@ goes_on_means rest ended room stops e =
     go true h = (ltb-true _ _ h, inr refl)
     go false h = let l = leb-true longest_item rest h in (omega (arith, l), inl l)
 
--- text that is put stays within the memory
-pub puts_within : (text old : List ℕ) (at r : ℕ) (new : List ℕ) → Puts text old at r new → at ≤ length old → length new ≡ length old → r ≤ length old
-unfolding laid
-puts_within text old at r new p le same =
-    let l : length new ≡ at + length text + length (drop (at + length text) old) =
-    ap length p.leaves ∙ length-append (take at old ++ text) (drop (at + length text) old) ∙ ap (λ (n : ℕ). n + length (drop (at + length text) old)) (length-append (take at old) text ∙ ap (λ (n : ℕ). n + length text) (length-take-le at old le))
-    in
-    let e = p.ends in
-    omega (arith, l, e, same)
-
 -- none takes more octets than there are, and one that does not stop the program takes some
 used_in : (b : Between) (input : List ℕ) → used_by b input ≤ length input
 used_in b input = go (step_of b input).stops
@@ -61,50 +52,48 @@ used_is : (b : Between) (input : List ℕ) → (step_of b input).stops ≡ false
 used_is b input s = rw s refl
 
 -- what is kept in the middle, with so many octets left
-pub record Passing (b : Between) (input : List ℕ) (ended : Bool) (marks₀ elapsed₀ sizes₀ out₀ marks elapsed sizes out : List ℕ) (g : Going) (at left : ℕ) (stops : Bool) : Type 0 where
+pub record Passing (b : Between) (input : List ℕ) (ended : Bool) (marks₀ elapsed₀ sizes₀ : List ℕ) (text₀ : Text) (marks elapsed sizes : List ℕ) (to : Text) (g : Going) (left : ℕ) (stops : Bool) : Type 0 where
   pub text : List ℕ
-  pub puts : Puts text out₀ 0 at out
+  pub most : ℕ
+  pub adds : Adds text most text₀ to
   pub told : Told b input ended text stops (between_in g marks elapsed sizes) (drop (length input - left) input)
   pub ready : Ready g marks elapsed sizes
-  pub at_in : at ≤ length out
   pub left_in : left ≤ length input
   pub marks_same : length marks ≡ length marks₀
   pub elapsed_same : length elapsed ≡ length elapsed₀
   pub sizes_same : length sizes ≡ length sizes₀
-  pub out_same : length out ≡ length out₀
 
 none_passed : (input : List ℕ) → drop (length input - length input) input ≡ input
 none_passed input = let z : length input - length input ≡ 0 = omega arith in rw z refl
 
-pub passing_start : (marks elapsed sizes input out : List ℕ) (ended : Bool) (g : Going) → Ready g marks elapsed sizes
-    → Passing (between_in g marks elapsed sizes) input ended marks elapsed sizes out marks elapsed sizes out g 0 (length input) false
-passing_start marks elapsed sizes input out ended g y =
+pub passing_start : (marks elapsed sizes input : List ℕ) (to : Text) (ended : Bool) (g : Going) → Ready g marks elapsed sizes
+    → Passing (between_in g marks elapsed sizes) input ended marks elapsed sizes to marks elapsed sizes to g (length input) false
+passing_start marks elapsed sizes input to ended g y =
     record {
       text = [];
-      puts = puts_none out 0;
+      most = 0;
+      adds = adds_none to 0;
       told = rw (none_passed input) (told_nothing (between_in g marks elapsed sizes) input ended);
       ready = y;
-      at_in = omega arith;
       left_in = omega arith;
       marks_same = refl;
       elapsed_same = refl;
       sizes_same = refl;
-      out_same = refl;
     }
 
 -- what is kept where no item more is passed
-pub passing_done : (b : Between) (input : List ℕ) (ended : Bool) (marks₀ elapsed₀ sizes₀ out₀ marks elapsed sizes out : List ℕ) (g : Going) (at left : ℕ) (stops : Bool)
-    → Passing b input ended marks₀ elapsed₀ sizes₀ out₀ marks elapsed sizes out g at left stops → goes_on left ended (length out - at) stops ≡ false
-    → Passed b input ended (record { going = g; at = at; used = length input - left; stops = stops }) marks elapsed sizes out₀ out
-    × (goes_on (length input - (length input - left)) ended (length out - at) stops ≡ false)
-passing_done b input ended marks₀ elapsed₀ sizes₀ out₀ marks elapsed sizes out g at left stops p off =
+pub passing_done : (b : Between) (input : List ℕ) (ended : Bool) (marks₀ elapsed₀ sizes₀ : List ℕ) (text₀ : Text) (marks elapsed sizes : List ℕ) (to : Text) (g : Going) (left : ℕ) (stops : Bool)
+    → Passing b input ended marks₀ elapsed₀ sizes₀ text₀ marks elapsed sizes to g left stops → goes_on left ended (room to) stops ≡ false
+    → Passed b input ended (record { going = g; used = length input - left; stops = stops }) marks elapsed sizes text₀ to
+    × (goes_on (length input - (length input - left)) ended (room to) stops ≡ false)
+passing_done b input ended marks₀ elapsed₀ sizes₀ text₀ marks elapsed sizes to g left stops p off =
     let n : length input - (length input - left) ≡ left = omega (arith, p.left_in) in
-    (record { text = p.text; puts = p.puts; told = p.told; ready = p.ready; used_in = omega arith; at_in = p.at_in }, rw n off)
+    (record { text = p.text; most = p.most; adds = p.adds; told = p.told; ready = p.ready; used_in = omega arith }, rw n off)
 
-module _ (b : Between) (input : List ℕ) (ended : Bool) (marks₀ elapsed₀ sizes₀ out₀ marks elapsed sizes out : List ℕ) (g : Going) (at left : ℕ) (stops : Bool)
-    (p : Passing b input ended marks₀ elapsed₀ sizes₀ out₀ marks elapsed sizes out g at left stops) (w : Went) (marks' elapsed' sizes' out' rest : List ℕ)
+module _ (b : Between) (input : List ℕ) (ended : Bool) (marks₀ elapsed₀ sizes₀ : List ℕ) (text₀ : Text) (marks elapsed sizes : List ℕ) (to : Text) (g : Going) (left : ℕ) (stops : Bool)
+    (p : Passing b input ended marks₀ elapsed₀ sizes₀ text₀ marks elapsed sizes to g left stops) (w : Went) (marks' elapsed' sizes' : List ℕ) (to' : Text) (rest : List ℕ)
     (is : rest ≡ drop (length input - left) input)
-    (t : Steps (step_of (between_in g marks elapsed sizes) rest) (used_by (between_in g marks elapsed sizes) rest) w marks' elapsed' sizes' out at out') where
+    (t : Steps (step_of (between_in g marks elapsed sizes) rest) (used_by (between_in g marks elapsed sizes) rest) w marks' elapsed' sizes' to to') where
   rest_long : length rest ≡ left
   rest_long = let d = length-drop (length input - left) input in let i = p.left_in in ap length is ∙ d ∙ omega (arith, i)
 
@@ -115,7 +104,7 @@ module _ (b : Between) (input : List ℕ) (ended : Bool) (marks₀ elapsed₀ si
       → Told (between_in g marks elapsed sizes) rest ended (step_of (between_in g marks elapsed sizes) rest).text w.stops (between_in w.going marks' elapsed' sizes') (drop (size_of (item_of rest)) rest)
   item_told l o = rw (t.stops, t.next) (told_item (between_in g marks elapsed sizes) rest ended (rw rest_long l) (whole o))
     where
-      whole : (longest_item ≤ left) ⊎ (ended ≡ true) → (item_of rest ≡ Cut → ⊥) ⊎ (ended ≡ true)
+      whole : (longest_item ≤ left) ⊎ (ended ≡ true) → (item_of rest ≡ Err Cut → ⊥) ⊎ (ended ≡ true)
       whole (inl h) = inl (never_cut rest (rw rest_long h))
       whole (inr e) = inr e
 
@@ -138,30 +127,28 @@ module _ (b : Between) (input : List ℕ) (ended : Bool) (marks₀ elapsed₀ si
       go true e q = told_over _ _ q
       go false e q = rw (← behind e) q
 
-  module _ (room : ℕ) (on : goes_on left ended room stops ≡ true) where
-    known : (stops ≡ false) × (most_text ≤ room) × (1 ≤ left) × ((longest_item ≤ left) ⊎ (ended ≡ true))
-    known = goes_on_means left ended room stops on
+  module _ (free : ℕ) (on : goes_on left ended free stops ≡ true) where
+    known : (stops ≡ false) × (most_text ≤ free) × (1 ≤ left) × ((longest_item ≤ left) ⊎ (ended ≡ true))
+    known = goes_on_means left ended free stops on
 
     told_on : Told b input ended (p.text ++ (step_of (between_in g marks elapsed sizes) rest).text) w.stops (between_in w.going marks' elapsed' sizes') (drop (length input - (left - w.used)) input)
     told_on =
         let k = known in
         told_then {c = between_in g marks elapsed sizes} {mid = rest} {s = p.text} (rw (is, ← k.0) p.told) (left_told k.2 k.3)
 
-    pub passing_on : length marks' ≡ length marks → length elapsed' ≡ length elapsed → length sizes' ≡ length sizes → length out' ≡ length out
-        → Passing b input ended marks₀ elapsed₀ sizes₀ out₀ marks' elapsed' sizes' out' w.going w.at (left - w.used) w.stops
-    passing_on m e s o =
-        let a = puts_within _ out at w.at out' t.puts p.at_in o in
+    pub passing_on : length marks' ≡ length marks → length elapsed' ≡ length elapsed → length sizes' ≡ length sizes
+        → Passing b input ended marks₀ elapsed₀ sizes₀ text₀ marks' elapsed' sizes' to' w.going (left - w.used) w.stops
+    passing_on m e s =
         record {
           text = p.text ++ (step_of (between_in g marks elapsed sizes) rest).text;
-          puts = puts_then (omega arith) p.puts t.puts;
+          most = p.most + most_text;
+          adds = adds_then p.adds t.adds;
           told = told_on;
           ready = t.ready;
-          at_in = omega (arith, a, o);
           left_in = omega (arith, p.left_in);
           marks_same = m ∙ p.marks_same;
           elapsed_same = e ∙ p.elapsed_same;
           sizes_same = s ∙ p.sizes_same;
-          out_same = o ∙ p.out_same;
         }
 
     pub passes_less : cond w.stops 0 (1 + (left - w.used)) < cond stops 0 (1 + left)

@@ -1,13 +1,14 @@
 -- Text told piece by piece: nothing told yet, one piece behind another, one item, more input, and the last account. Assumes nothing.
-use Prim.Native.Nat.{ℕ, ◌+◌, ◌-◌, ◌≤◌, ◌<◌}
+use Prim.Native.Nat.{ℕ, ◌≤◌}
 use mathlib.Core.Path.{◌≡◌, refl, sym, ap, ◌∙◌}
 use mathlib.Core.Logic.{◌⊎◌, inl, inr}
 use mathlib.Core.Bool.{Bool, true, false, cond, false≢true}
 use mathlib.Core.List.{List, [], ◌++◌, append_assoc, append-nil}
 use lib.ListN.{length, drop}
-use Rattle.items.specs.declared.Item.TheVariants.{Cut}
+use Rattle.std.specs.Prelude.{Err}
+use Rattle.items.specs.declared.NoItem.TheVariants.{Cut}
 use Rattle.items.specs.Items.{item_of, size_of}
-use Rattle.printout.specs.Printed.{Between, account_before, step_of, text_from, program_text, nothing_yet}
+use Rattle.printout.specs.Printed.{Between, account_before, step_of, text_from}
 use Rattle.printout.proofs.WholeText.{text_end, text_on}
 use Rattle.passing.specs.Passing.{Told}
 
@@ -22,7 +23,7 @@ told_then {b} {c} {d} {input} {mid} {left} {ended} {s} {t} {over} p q =
     record { told = λ more h. p.told more h ∙ ap (λ (x : List ℕ). s ++ x) (q.told more h) ∙ sym (append_assoc s t (cond over [] (text_from d (left ++ more)))) }
 
 -- the item in front, where it is all there or the input has ended
-pub told_item : (b : Between) (s : List ℕ) (ended : Bool) → 1 ≤ length s → (item_of s ≡ Cut → ⊥) ⊎ (ended ≡ true)
+pub told_item : (b : Between) (s : List ℕ) (ended : Bool) → 1 ≤ length s → (item_of s ≡ Err Cut → ⊥) ⊎ (ended ≡ true)
     → Told b s ended (step_of b s).text (step_of b s).stops (step_of b s).next (drop (size_of (item_of s)) s)
 told_item b s ended l (inl n) = record { told = λ more h. text_on b s more l (inl n) }
 told_item b s ended l (inr e) = record { told = λ more h. text_on b s more l (inr (h e)) }

@@ -1,10 +1,9 @@
 -- In whatever pieces the input is read, all that is told is the text of the whole. Assumes nothing.
 use Prim.Native.Nat.{ℕ}
 use mathlib.Core.Path.{◌≡◌, refl, sym, ap, ◌∙◌}
-use mathlib.Core.Bool.{true, false, false≢true}
+use mathlib.Core.Bool.{false≢true}
 use mathlib.Core.List.{List, [], ◌++◌, append_assoc, append-nil}
 use Rattle.printout.specs.Printed.{Between, text_from, program_text, nothing_yet}
-use Rattle.passing.specs.Passing.{Told}
 use Rattle.passing.specs.Pieces.{InPieces, last, stopped, piece, owing}
 use Rattle.passing.proofs.Telling.{told_all}
 

@@ -1,9 +1,9 @@
 -- Items passed one after another, from the front of what was read. Assumes nothing.
-use Rattle.std.specs.Prelude.{ℕ, ◌+◌, ◌-◌, ◌≤◌, ◌<◌, ◌≡◌, ◌⊎◌, Bool, true, false, cond, List, [], ◌++◌, ltb, leb, length, drop}
+use Rattle.std.specs.Prelude.{ℕ, ◌-◌, ◌≤◌, ◌<◌, ◌≡◌, ◌⊎◌, Bool, true, false, cond, List, [], ◌++◌, ltb, leb, length, drop}
 use Rattle.fields.specs.Choice.{◌when◌otherwise◌}
-use Rattle.lines.specs.Text.{Puts}
+use Rattle.lines.specs.declared.Text.{Text}
+use Rattle.lines.specs.Adding.{room, Adds}
 use Rattle.items.specs.Items.{longest_item}
-use Rattle.printout.specs.declared.Going.{Going}
 use Rattle.printout.specs.declared.Went.{Went}
 use Rattle.printout.specs.Printed.{Between, most_text, text_from}
 use Rattle.printout.specs.Stepping.{between_in, Ready}
@@ -20,15 +20,15 @@ goes_on rest ended room stops =
 pub record Told (b : Between) (input : List ℕ) (ended : Bool) (text : List ℕ) (over : Bool) (c : Between) (left : List ℕ) : Type 0 where
   pub told : (more : List ℕ) → (ended ≡ true → more ≡ []) → text_from b (input ++ more) ≡ text ++ cond over [] (text_from c (left ++ more))
 
--- the promise: memory that held old holds the text in front, and nothing else differs; nothing is passed beyond what there is
-pub record Passed (b : Between) (input : List ℕ) (ended : Bool) (r : Went) (marks elapsed sizes old new : List ℕ) : Type 0 where
+-- the promise: the text stands behind what was put before, and nothing else differs; nothing is passed beyond what there is
+pub record Passed (b : Between) (input : List ℕ) (ended : Bool) (r : Went) (marks elapsed sizes : List ℕ) (old new : Text) : Type 0 where
   pub text : List ℕ
-  pub puts : Puts text old 0 r.at new
+  pub most : ℕ
+  pub adds : Adds text most old new
   pub told : Told b input ended text r.stops (between_in r.going marks elapsed sizes) (drop r.used input)
   pub ready : Ready r.going marks elapsed sizes
   pub used_in : r.used ≤ length input
-  pub at_in : r.at ≤ length new
 
 -- why not all is told: what comes next may have no room, or has to be read first
-pub record Waits (input : List ℕ) (ended : Bool) (r : Went) (new : List ℕ) : Type 0 where
-  pub why : r.stops ≡ false → (length new < r.at + most_text) ⊎ ((ended ≡ false) × (length input - r.used < longest_item))
+pub record Waits (input : List ℕ) (ended : Bool) (r : Went) (new : Text) : Type 0 where
+  pub why : r.stops ≡ false → (room new < most_text) ⊎ ((ended ≡ false) × (length input - r.used < longest_item))

@@ -2,17 +2,19 @@
 #![tactic(auto)]
 
 ghost use Rattle.std.specs.Prelude.{◌≡◌, false, ◌-◌, length};
+ghost use Rattle.lines.specs.Adding.{room};
 ghost use Rattle.printout.specs.Stepping.{between_in, Ready};
 ghost use Rattle.passing.specs.Passing.{goes_on, Passed, Waits};
 
 use items::LONGEST_ITEM;
+use lines::Text;
 use printout::{Going, PLACES, Went, account_before, step};
 use telling::{END_LINE, FIGURE_LINES, GAP_LINE, SEQUENCE_LINE};
 
 // The most octets that one item prints, an account: a gap may stand at each place and behind the last.
 const MOST_TEXT: usize = SEQUENCE_LINE + FIGURE_LINES + GAP_LINE * (PLACES + 1) + END_LINE;
 
-// Whether the next item can be passed.
+// Whether the next item can be passed. Kept: one test after another, as in its definition; joined by `&&` each is split again in the proof.
 fn goes_on(rest: usize, ended: bool, room: usize, stops: bool) -> bool
     ensures { result ≡ goes_on rest ended room stops }
 {
@@ -28,7 +30,7 @@ fn goes_on(rest: usize, ended: bool, room: usize, stops: bool) -> bool
     LONGEST_ITEM <= rest
 }
 
-// Passes items from the front of the input, and puts what they print into memory from its front.
+// Passes items from the front of the input, and puts what they print behind what was put before.
 fn pass_items(
     g: Going,
     marks: &mut [u8],
@@ -36,28 +38,25 @@ fn pass_items(
     sizes: &mut [u16],
     input: &[u8],
     ended: bool,
-    out: &mut [u8],
+    text: &mut Text,
 ) -> Went
     requires { Ready g marks.old elapsed.old sizes.old }
     ensures passed { Passed (between_in g marks.old elapsed.old sizes.old) input.now ended
-        result marks.new elapsed.new sizes.new out.old out.new }
-    ensures stops_after { goes_on (length input.now - result.used) ended (length out.new - result.at) result.stops ≡ false }
+        result marks.new elapsed.new sizes.new text.old text.new }
+    ensures stops_after { goes_on (length input.now - result.used) ended (room text.new) result.stops ≡ false }
 {
     let mut going = g;
-    let mut at: usize = 0;
     let mut left = input.len();
     let mut stops = false;
-    while goes_on(left, ended, out.len() - at, stops) {
+    while goes_on(left, ended, text.room(), stops) {
         let item = &input[input.len() - left..];
-        let w = step(going, marks, elapsed, sizes, item, out, at);
+        let w = step(going, marks, elapsed, sizes, item, text);
         going = w.going;
-        at = w.at;
         left = left - w.used;
         stops = w.stops;
     }
     Went {
         going: going,
-        at: at,
         used: input.len() - left,
         stops: stops,
     }
@@ -71,29 +70,18 @@ pub fn pass(
     sizes: &mut [u16],
     input: &[u8],
     ended: bool,
-    out: &mut [u8],
+    text: &mut Text,
 ) -> Went
     requires { Ready g marks.old elapsed.old sizes.old }
     ensures passed { Passed (between_in g marks.old elapsed.old sizes.old) input.now ended
-        result marks.new elapsed.new sizes.new out.old out.new }
-    ensures waits { Waits input.now ended result out.new }
+        result marks.new elapsed.new sizes.new text.old text.new }
+    ensures waits { Waits input.now ended result text.new }
 {
-    let w = pass_items(g, marks, elapsed, sizes, input, ended, out);
-    if w.stops {
+    let w = pass_items(g, marks, elapsed, sizes, input, ended, text);
+    let more_may_come = !ended;
+    if w.stops || more_may_come || text.room() < MOST_TEXT {
         return w;
     }
-    if !ended {
-        return w;
-    }
-    if out.len() - w.at < MOST_TEXT {
-        return w;
-    }
-    let going = w.going;
-    let at = account_before(going, marks, elapsed, sizes, out, w.at);
-    Went {
-        going: going,
-        at: at,
-        used: w.used,
-        stops: true,
-    }
+    account_before(w.going, marks, elapsed, sizes, text);
+    Went { stops: true, ..w }
 }

@@ -4,12 +4,7 @@
 use std::thread;
 use std::time::{Clock, Duration};
 
-// Waits for a time. A signal does not cut it short.
-fn wait(clock: &impl Clock, asked: Duration) {
-    thread::sleep(clock, asked);
-}
-
-// Waits a thousandth of a second.
+// Waits a thousandth of a second. A signal does not cut it short.
 pub fn pause(clock: &impl Clock) {
-    wait(clock, Duration::from_millis(1));
+    thread::sleep(clock, Duration::from_millis(1));
 }

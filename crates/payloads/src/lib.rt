@@ -1,63 +1,42 @@
 // How much of the part behind the checks of a Type 1 frame is payload: up to four octets behind an IP packet are not.
 #![tactic(auto)]
 
-ghost use Rattle.std.specs.Prelude.{◌≡◌, ◌≤◌, length};
-ghost use Rattle.frame.specs.Payloads.{version_of, kept_of, payload_kept};
+ghost use Rattle.std.specs.Prelude.{◌≡◌, ◌≤◌, length, MatchOption};
+ghost use Rattle.frame.specs.Payloads.{kept_of, payload_kept};
 
-// How many of l octets are kept, where n are stated: at most 65,535 and the 40 of an IPv6 header.
-fn kept_of(l: u64, n: u64) -> u64
-    requires { n ≤ 65575 }
-    ensures { result ≡ kept_of l n }
+// How many octets the IP header in front states: at most 65,535 and the 40 of an IPv6 header. None where no IP header stands there.
+#[tactic(auto, unfolding(frame::specs::Payloads::payload_kept, frame::specs::Payloads::starts_v4, frame::specs::Payloads::starts_v6))]
+fn stated(part: &[u8]) -> Option<u64>
+    ensures { MatchOption result (payload_kept part.now ≡ length part.now)
+        (λ n. (n ≤ 65575) × (payload_kept part.now ≡ kept_of (length part.now) n)) }
 {
-    if l < n {
-        return l;
+    if part.len() < 20 {
+        return None;
     }
-    if n + 4 < l {
-        return l;
+    match part[0] >> 4 {
+        4 => {
+            // The lower half of its first octet is its length in words of four octets.
+            let words = u64::from(part[0] % 16);
+            let n = fields::field(part, 2, 2);
+            if 5 <= words && 4 * words <= n {
+                Some(n)
+            } else {
+                None
+            }
+        }
+        6 if part.len() < 40 => None,
+        6 => Some(fields::field(part, 4, 2) + 40),
+        _ => None,
     }
-    n
 }
 
-// By an IPv4 header. The lower half of its first octet is its length in words of four octets.
-fn kept_by_v4(part: &[u8]) -> u64
-    requires { (20 ≤ length part.now) × (version_of part.now ≡ 4) }
-    ensures { result ≡ payload_kept part.now }
-{
-    let words = (part[0] % 16) as u64;
-    let stated = fields::field(part, 2, 2);
-    if words < 5 {
-        return part.len() as u64;
-    }
-    if stated < 4 * words {
-        return part.len() as u64;
-    }
-    kept_of(part.len() as u64, stated)
-}
-
-// By an IPv6 header.
-fn kept_by_v6(part: &[u8]) -> u64
-    requires { version_of part.now ≡ 6 }
-    ensures { result ≡ payload_kept part.now }
-{
-    if part.len() < 40 {
-        return part.len() as u64;
-    }
-    kept_of(part.len() as u64, fields::field(part, 4, 2) + 40)
-}
-
-// How many octets of a part, or of a payload that is to be written, a reader takes. What cannot be an IP packet is ruled out first.
+// How many octets of a part, or of a payload that is to be written, a reader takes.
 pub fn payload_kept(part: &[u8]) -> u64
     ensures { result ≡ payload_kept part.now }
 {
-    if part.len() < 20 {
-        return part.len() as u64;
+    let there = part.len() as u64;
+    match stated(part) {
+        Some(n) if n <= there && there <= n + 4 => n,
+        _ => there,
     }
-    let version = part[0] >> 4;
-    if version == 4 {
-        return kept_by_v4(part);
-    }
-    if version == 6 {
-        return kept_by_v6(part);
-    }
-    part.len() as u64
 }

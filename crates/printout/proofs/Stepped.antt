@@ -1,17 +1,17 @@
 -- How each kind of item meets the promise of a step. Assumes nothing.
 use Rattle.std.proofs.Common.{◌≡◌, ℕ, ◌+◌, ◌-◌, ◌≤◌, Bool, true, false, not, List, length, take, drop, replicate, sym, refl, ap, ◌∙◌, subst, arith, length-drop, length-take-le}
 use lib.ListN.{length-replicate}
-use Rattle.units.specs.declared.Refusal.{Refusal}
 use Rattle.units.specs.Limits.{last_stamp}
 use Rattle.fields.specs.Choice.{◌when◌otherwise◌}
-use Rattle.lines.specs.Text.{Puts}
-use Rattle.lines.proofs.Putting.{puts_none}
-use Rattle.items.specs.declared.Item.TheVariants.{Begins, Frame, Wrong, Cut}
+use Rattle.lines.specs.declared.Text.{Text}
+use Rattle.lines.specs.Adding.{Adds}
+use Rattle.lines.proofs.Added.{adds_in}
+use Rattle.items.specs.declared.Item.TheVariants.{Begins, Frame}
+use Rattle.items.specs.declared.NoItem.{NoItem}
+use Rattle.std.specs.Prelude.{Ok, Err, Some}
 use Rattle.items.specs.declared.Key.{Key}
 use Rattle.items.specs.Items.{item_of, size_of}
 use Rattle.reception.specs.declared.Head.{Head}
-use Rattle.reception.specs.declared.Taken.{Taken}
-use Rattle.reception.specs.declared.Taken.TheVariants.{Done, Refused}
 use Rattle.reception.specs.Damage.{Matched}
 use Rattle.reception.specs.Hearing.{Kept, kept_in, damaged_kept, open_head, hear_frame}
 use Rattle.reception.proofs.KeptAsHeld.{matched_lists}
@@ -21,11 +21,11 @@ use Rattle.hearing.specs.declared.contradicting.Span.{Span}
 use Rattle.hearing.specs.declared.following.Following.{Following}
 use Rattle.hearing.specs.Following.{Follows}
 use Rattle.hearing.proofs.EmptyRecord.{empty_undamaged, empty_before, empty_from}
-use Rattle.telling.specs.Account.{account_text, refused_line, bad_line}
+use Rattle.telling.specs.Account.{bad_line}
 use Rattle.printout.specs.declared.Going.{Going}
 use Rattle.printout.specs.declared.Went.{Went}
-use Rattle.printout.specs.Printed.{places, counted, Between, Step, account_before, bad_step, answer_text, frame_step, heard_in, key_step, item_step, step_of, used_by}
-use Rattle.printout.specs.Stepping.{between_in, Ready, Steps}
+use Rattle.printout.specs.Printed.{places, most_text, counted, Between, Step, account_before, bad_step, answer_text, frame_step, heard_in, key_step, item_step, step_of, used_by}
+use Rattle.printout.specs.Stepping.{begun_of, between_in, Ready, Steps}
 
 -- the lists of what is kept match
 pub ready_lists : (g : Going) (marks elapsed sizes : List ℕ) → Ready g marks elapsed sizes → Matched marks elapsed sizes
@@ -33,25 +33,16 @@ ready_lists g marks elapsed sizes r =
     let m = r.marks_long in
     record { room = omega (arith, m); elapseds = r.elapsed_long ∙ sym m; lengths = r.sizes_long ∙ sym m }
 
--- the account before, where a sequence was begun and where none was
-pub begun_account : (g : Going) (marks elapsed sizes old : List ℕ) (at r : ℕ) (new : List ℕ) → g.begun ≡ true
-    → Puts (account_text (kept_in g.head marks elapsed sizes)) old at r new → Puts (account_before (between_in g marks elapsed sizes)) old at r new
-begun_account g marks elapsed sizes old at r new b p = rw b p
-
-pub none_account : (g : Going) (marks elapsed sizes old : List ℕ) (at : ℕ) → g.begun ≡ false
-    → Puts (account_before (between_in g marks elapsed sizes)) old at at old
-none_account g marks elapsed sizes old at b = rw b (puts_none old at)
-
 -- a key
-pub keyed : (b : Between) (k : Key) → k.stamp ≤ last_stamp → (h : Head) (span : Span) (place offset at' : ℕ) (marks elapsed sizes old : List ℕ) (at : ℕ) (new : List ℕ)
-    → Puts (account_before b) old at at' new → h ≡ open_head k.bearer k.period k.stamp → marks ≡ replicate places 0 → elapsed ≡ replicate places 0
+pub keyed : (b : Between) (k : Key) → k.stamp ≤ last_stamp → (h : Head) (span : Span) (place offset : ℕ) (marks elapsed sizes : List ℕ) (old new : Text)
+    → Adds (account_before b) most_text old new → h ≡ open_head k.bearer k.period k.stamp → marks ≡ replicate places 0 → elapsed ≡ replicate places 0
     → sizes ≡ replicate places 0 → span.end ≡ 0 → place ≡ counted (b.place + 1) → offset ≡ counted (b.offset + 14)
     → Steps (key_step b k) 14
-    (record { going = record { begun = true; head = h; span = span; place = place; offset = offset }; at = at'; used = 14; stops = false })
-    marks elapsed sizes old at new
-keyed b k st h span place offset at' marks elapsed sizes old at new p hh m e z se pl of =
+    (record { going = record { begun = Some (record { head = h; span = span }); place = place; offset = offset }; used = 14; stops = false })
+    marks elapsed sizes old new
+keyed b k st h span place offset marks elapsed sizes old new p hh m e z se pl of =
     record {
-      puts = p;
+      adds = p;
       next = rw (hh, m, e, z, pl, of) refl;
       stops = refl;
       used = refl;
@@ -62,28 +53,29 @@ keyed b k st h span place offset at' marks elapsed sizes old at new p hh m e z s
         undamaged = empty_undamaged k.bearer k.period k.stamp places st (omega arith) h marks elapsed sizes hh m e z;
         before = empty_before k.bearer k.period k.stamp places st (omega arith) h marks elapsed sizes hh m e z span.first;
         from_end = rw se (empty_from k.bearer k.period k.stamp places st (omega arith) h marks elapsed sizes hh m e z);
+        fresh = λ n. absurd cc;
       };
     }
 
 -- bad input
-pub bad_stepped : (g : Going) (marks elapsed sizes old : List ℕ) (at : ℕ) (r : Went) (new : List ℕ) → Ready g marks elapsed sizes
-    → Puts (bad_line g.offset) old at r.at new → r.going ≡ g → r.stops ≡ true → r.used ≡ 0
-    → Steps (bad_step (between_in g marks elapsed sizes)) 0 r marks elapsed sizes old at new
-bad_stepped g marks elapsed sizes old at r new y p e s u =
-    record { puts = p; next = rw e refl; stops = s; used = u; ready = rw e y }
+pub bad_stepped : (g : Going) (marks elapsed sizes : List ℕ) (r : Went) (old new : Text) → Ready g marks elapsed sizes
+    → Adds (bad_line g.offset) 64 old new → r.going ≡ g → r.stops ≡ true → r.used ≡ 0
+    → Steps (bad_step (between_in g marks elapsed sizes)) 0 r marks elapsed sizes old new
+bad_stepped g marks elapsed sizes r old new y p e s u =
+    record { adds = adds_in most_text (omega arith) p; next = rw e refl; stops = s; used = u; ready = rw e y }
 
 -- a frame heard
-pub framed_step : (g : Going) (marks elapsed sizes body : List ℕ) (t : Following) (marks' elapsed' sizes' old : List ℕ) (at at' : ℕ) (new : List ℕ) (place offset : ℕ)
+pub framed_step : (g : Going) (marks elapsed sizes body : List ℕ) (t : Following) (marks' elapsed' sizes' : List ℕ) (old new : Text) (place offset : ℕ)
     → Ready g marks elapsed sizes
-    → Follows (hear_frame (kept_in g.head marks elapsed sizes) g.head.bearer g.head.period body) t marks' elapsed' sizes'
+    → Follows (hear_frame (kept_in (begun_of g.begun).head marks elapsed sizes) (begun_of g.begun).head.bearer (begun_of g.begun).head.period body) t marks' elapsed' sizes'
     → length marks' ≡ length marks → length elapsed' ≡ length elapsed → length sizes' ≡ length sizes
-    → place ≡ counted (g.place + 1) → offset ≡ counted (g.offset + (4 + length body)) → Puts (answer_text place t.answer) old at at' new
+    → place ≡ counted (g.place + 1) → offset ≡ counted (g.offset + (4 + length body)) → Adds (answer_text place t.answer) 128 old new
     → Steps (frame_step (between_in g marks elapsed sizes) (4 + length body) (heard_in (between_in g marks elapsed sizes) body)) (4 + length body)
-    (record { going = record { begun = true; head = t.head; span = t.span; place = place; offset = offset }; at = at'; used = 4 + length body; stops = false })
-    marks' elapsed' sizes' old at new
-framed_step g marks elapsed sizes body t marks' elapsed' sizes' old at at' new place offset y f ml el sl pl of p =
+    (record { going = record { begun = Some (record { head = t.head; span = t.span }); place = place; offset = offset }; used = 4 + length body; stops = false })
+    marks' elapsed' sizes' old new
+framed_step g marks elapsed sizes body t marks' elapsed' sizes' old new place offset y f ml el sl pl of p =
     record {
-      puts = rw (pl, taken_known t.answer (hear_frame (kept_in g.head marks elapsed sizes) g.head.bearer g.head.period body).answer f.taken.says) at p;
+      adds = rw (pl, taken_known t.answer (hear_frame (kept_in (begun_of g.begun).head marks elapsed sizes) (begun_of g.begun).head.bearer (begun_of g.begun).head.period body).answer f.taken.says) at (adds_in most_text (omega arith) p);
       next = rw (f.taken.leaves, pl, of) refl;
       stops = refl;
       used = refl;
@@ -92,64 +84,52 @@ framed_step g marks elapsed sizes body t marks' elapsed' sizes' old at at' new p
         elapsed_long = el ∙ y.elapsed_long;
         sizes_long = sl ∙ y.sizes_long;
         undamaged = subst (λ (x : Kept). damaged_kept x ≡ false) (sym f.taken.leaves)
-            (stays_undamaged (kept_in g.head marks elapsed sizes) g.head.bearer g.head.period body (matched_lists marks elapsed sizes (ready_lists g marks elapsed sizes y)) y.undamaged).1;
+            (stays_undamaged (kept_in (begun_of g.begun).head marks elapsed sizes) (begun_of g.begun).head.bearer (begun_of g.begun).head.period body (matched_lists marks elapsed sizes (ready_lists g marks elapsed sizes y)) y.undamaged).1;
         before = f.before;
         from_end = f.from_end;
+        fresh = λ n. absurd cc;
       };
     }
 
--- the text of an answer
-pub told_nothing : (place at : ℕ) (t : Taken) (old : List ℕ) → t ≡ Done → Puts (answer_text place t) old at at old
-told_nothing place at t old e = rw e (puts_none old at)
-
-pub told_refused : (place at r : ℕ) (t : Taken) (x : Refusal) (old new : List ℕ) → t ≡ Refused x → Puts (refused_line place x) old at r new
-    → Puts (answer_text place t) old at r new
-told_refused place at r t x old new e p = rw e p
-
 -- a step by what the item is
 module _ (b : Between) (input : List ℕ) where
-  pub steps_key : (k : Key) {r : Went} {marks elapsed sizes old new : List ℕ} {at : ℕ} → item_of input ≡ Begins k
-      → Steps (key_step b k) 14 r marks elapsed sizes old at new → Steps (step_of b input) (used_by b input) r marks elapsed sizes old at new
+  pub steps_key : (k : Key) {r : Went} {marks elapsed sizes : List ℕ} {old new : Text} → item_of input ≡ Ok (Begins k)
+      → Steps (key_step b k) 14 r marks elapsed sizes old new → Steps (step_of b input) (used_by b input) r marks elapsed sizes old new
   unfolding item_step size_of
   steps_key k e p = rw e p
 
-  in_turn : (n : ℕ) → b.begun ≡ true → item_step b input (Frame n) ≡ frame_step b (4 + n) (heard_in b (take n (drop 4 input)))
+  in_turn : (n : ℕ) → b.begun ≡ true → item_step b input (Ok (Frame n)) ≡ frame_step b (4 + n) (heard_in b (take n (drop 4 input)))
   unfolding item_step
   in_turn n y = ap (λ (t : Bool). bad_step b when not t otherwise frame_step b (4 + n) (heard_in b (take n (drop 4 input)))) y
 
-  pub steps_frame : (n : ℕ) {r : Went} {marks elapsed sizes old new : List ℕ} {at : ℕ} → item_of input ≡ Frame n → b.begun ≡ true
-      → Steps (frame_step b (4 + n) (heard_in b (take n (drop 4 input)))) (4 + n) r marks elapsed sizes old at new
-      → Steps (step_of b input) (used_by b input) r marks elapsed sizes old at new
+  pub steps_frame : (n : ℕ) {r : Went} {marks elapsed sizes : List ℕ} {old new : Text} → item_of input ≡ Ok (Frame n) → b.begun ≡ true
+      → Steps (frame_step b (4 + n) (heard_in b (take n (drop 4 input)))) (4 + n) r marks elapsed sizes old new
+      → Steps (step_of b input) (used_by b input) r marks elapsed sizes old new
   unfolding size_of
-  steps_frame n {r} {marks} {elapsed} {sizes} {old} {new} {at} e y p =
+  steps_frame n {r} {marks} {elapsed} {sizes} {old} {new} e y p =
       let q = ap (item_step b input) e ∙ in_turn n y in
       let u : used_by b input ≡ 4 + n =
       ap (λ (t : Step). 0 when t.stops otherwise size_of (item_of input)) q ∙ ap size_of e
       in
-      subst (λ (t : Step). Steps t (used_by b input) r marks elapsed sizes old at new) (sym q)
-      (subst (λ (x : ℕ). Steps (frame_step b (4 + n) (heard_in b (take n (drop 4 input)))) x r marks elapsed sizes old at new) (sym u) p)
+      subst (λ (t : Step). Steps t (used_by b input) r marks elapsed sizes old new) (sym q)
+      (subst (λ (x : ℕ). Steps (frame_step b (4 + n) (heard_in b (take n (drop 4 input)))) x r marks elapsed sizes old new) (sym u) p)
 
-  early : (n : ℕ) → b.begun ≡ false → item_step b input (Frame n) ≡ bad_step b
+  early : (n : ℕ) → b.begun ≡ false → item_step b input (Ok (Frame n)) ≡ bad_step b
   unfolding item_step
   early n y = ap (λ (t : Bool). bad_step b when not t otherwise frame_step b (4 + n) (heard_in b (take n (drop 4 input)))) y
 
-  pub steps_early : (n : ℕ) {r : Went} {marks elapsed sizes old new : List ℕ} {at : ℕ} → item_of input ≡ Frame n → b.begun ≡ false
-      → Steps (bad_step b) 0 r marks elapsed sizes old at new → Steps (step_of b input) (used_by b input) r marks elapsed sizes old at new
-  steps_early n {r} {marks} {elapsed} {sizes} {old} {new} {at} e y p =
+  pub steps_early : (n : ℕ) {r : Went} {marks elapsed sizes : List ℕ} {old new : Text} → item_of input ≡ Ok (Frame n) → b.begun ≡ false
+      → Steps (bad_step b) 0 r marks elapsed sizes old new → Steps (step_of b input) (used_by b input) r marks elapsed sizes old new
+  steps_early n {r} {marks} {elapsed} {sizes} {old} {new} e y p =
       let q = ap (item_step b input) e ∙ early n y in
       let u : used_by b input ≡ 0 = ap (λ (t : Step). 0 when t.stops otherwise size_of (item_of input)) q in
-      subst (λ (t : Step). Steps t (used_by b input) r marks elapsed sizes old at new) (sym q)
-      (subst (λ (x : ℕ). Steps (bad_step b) x r marks elapsed sizes old at new) (sym u) p)
+      subst (λ (t : Step). Steps t (used_by b input) r marks elapsed sizes old new) (sym q)
+      (subst (λ (x : ℕ). Steps (bad_step b) x r marks elapsed sizes old new) (sym u) p)
 
-  pub steps_wrong : {r : Went} {marks elapsed sizes old new : List ℕ} {at : ℕ} → item_of input ≡ Wrong
-      → Steps (bad_step b) 0 r marks elapsed sizes old at new → Steps (step_of b input) (used_by b input) r marks elapsed sizes old at new
-  unfolding item_step size_of
-  steps_wrong e p = rw e p
-
-  pub steps_cut : {r : Went} {marks elapsed sizes old new : List ℕ} {at : ℕ} → item_of input ≡ Cut
-      → Steps (bad_step b) 0 r marks elapsed sizes old at new → Steps (step_of b input) (used_by b input) r marks elapsed sizes old at new
-  unfolding item_step size_of
-  steps_cut e p = rw e p
+  pub steps_none : (x : NoItem) {r : Went} {marks elapsed sizes : List ℕ} {old new : Text} → item_of input ≡ Err x
+      → Steps (bad_step b) 0 r marks elapsed sizes old new → Steps (step_of b input) (used_by b input) r marks elapsed sizes old new
+  unfolding item_step
+  steps_none x e p = rw e p
 
 -- the body of a frame is what stands behind the item's four octets
 pub body_is : (n : ℕ) (input : List ℕ) → take (4 + n - 4) (drop 4 input) ≡ take n (drop 4 input)
@@ -158,7 +138,7 @@ body_is n input = let e : 4 + n - 4 ≡ n = omega arith in ap (λ (k : ℕ). tak
 pub body_long : (n : ℕ) (input : List ℕ) → 4 + n ≤ length input → length (take n (drop 4 input)) ≡ n
 body_long n input le = let d = length-drop 4 input in length-take-le n (drop 4 input) (omega (arith, d))
 
-pub steps_body : (b : Between) (n : ℕ) (body input : List ℕ) {r : Went} {marks elapsed sizes old new : List ℕ} {at : ℕ} → body ≡ take n (drop 4 input)
-    → 4 + n ≤ length input → Steps (frame_step b (4 + length body) (heard_in b body)) (4 + length body) r marks elapsed sizes old at new
-    → Steps (frame_step b (4 + n) (heard_in b (take n (drop 4 input)))) (4 + n) r marks elapsed sizes old at new
+pub steps_body : (b : Between) (n : ℕ) (body input : List ℕ) {r : Went} {marks elapsed sizes : List ℕ} {old new : Text} → body ≡ take n (drop 4 input)
+    → 4 + n ≤ length input → Steps (frame_step b (4 + length body) (heard_in b body)) (4 + length body) r marks elapsed sizes old new
+    → Steps (frame_step b (4 + n) (heard_in b (take n (drop 4 input)))) (4 + n) r marks elapsed sizes old new
 steps_body b n body input e le p = rw (e, body_long n input le) at p

@@ -1,6 +1,5 @@
 -- Document 01's example of the printed account, whole: the input of its two items prints exactly its text. Assumes nothing.
 use Rattle.std.proofs.Common.{◌≡◌, ℕ, ◌≤◌, cond, List, [], ◌++◌, length, drop, ap, ◌∙◌, arith}
-use Rattle.frame.proofs.BenchExamples.{C}
 use Rattle.items.specs.declared.Key.{Key}
 use Rattle.items.specs.Items.{item_of, size_of}
 use Rattle.items.proofs.Example.{first_item, second_item, first_begins, second_frame}

@@ -1,12 +1,13 @@
 -- The whole text is the text of the steps in order: one step and then what it leaves, and more input changes no item that is all
 -- there. Assumes nothing.
-use Rattle.std.proofs.Common.{◌≡◌, ℕ, zero, suc, ◌+◌, ◌<◌, ◌≤◌, Bool, true, false, cond, not, eqb, ◌⊎◌, List, [], ◌++◌, length, take, drop, sym, refl, ap, ◌∙◌, inl, inr, true≢false, append-nil, arith, length-append, length-drop, ne_eqb, eqb-true}
+use Rattle.std.proofs.Common.{◌≡◌, ℕ, zero, suc, ◌+◌, ◌≤◌, Bool, true, false, cond, eqb, ◌⊎◌, List, [], ◌++◌, length, take, drop, sym, refl, ap, ◌∙◌, inl, inr, true≢false, append-nil, arith, length-append, length-drop, ne_eqb, eqb-true}
 use lib.Seq.{drop-append-le, take-append-le}
 use Rattle.fields.specs.Choice.{◌when◌otherwise◌}
 use Rattle.fields.proofs.Tests.{either}
-use Rattle.items.specs.declared.Item.{Item}
-use Rattle.items.specs.declared.Item.TheVariants.{Begins, Frame, Wrong, Cut}
-use Rattle.items.specs.Items.{item_of, size_of}
+use Rattle.std.specs.Prelude.{Ok, Err}
+use Rattle.items.specs.declared.Item.TheVariants.{Begins, Frame}
+use Rattle.items.specs.declared.NoItem.TheVariants.{Cut}
+use Rattle.items.specs.Items.{Found, item_of, size_of}
 use Rattle.items.proofs.Enough.{frame_there, size_there, enough}
 use Rattle.printout.specs.Printed.{Between, Step, account_before, item_step, step_of, printed, text_from}
 
@@ -15,11 +16,10 @@ pub takes_some : (b : Between) (input : List ℕ) → (step_of b input).stops �
 unfolding item_step size_of
 takes_some b input s = go (item_of input) s
   where
-    go : (i : Item) → (item_step b input i).stops ≡ false → 1 ≤ size_of i
-    go (Begins k) e = omega arith
-    go (Frame n) e = omega arith
-    go Wrong e = absurd (true≢false e)
-    go Cut e = absurd (true≢false e)
+    go : (i : Found) → (item_step b input i).stops ≡ false → 1 ≤ size_of i
+    go (Ok (Begins k)) e = omega arith
+    go (Ok (Frame n)) e = omega arith
+    go (Err x) e = absurd (true≢false e)
 
 -- the text of the step in front, and of what is left by the rest
 abbrev StepThen : (Between → List ℕ → List ℕ) → Between → List ℕ → List ℕ
@@ -83,22 +83,21 @@ same_body s more n h =
     let d = length-drop 4 s in
     ap (take n) (drop-append-le 4 s more (omega (arith, h))) ∙ take-append-le n (drop 4 s) more (omega (arith, d, h))
 
-same_step : (b : Between) (s more : List ℕ) (i : Item) → item_of s ≡ i → item_step b (s ++ more) i ≡ item_step b s i
+same_step : (b : Between) (s more : List ℕ) (i : Found) → item_of s ≡ i → item_step b (s ++ more) i ≡ item_step b s i
 unfolding item_step
-same_step b s more (Begins k) e = refl
-same_step b s more (Frame n) e = rw (same_body s more n (frame_there s n e).1) refl
-same_step b s more Wrong e = refl
-same_step b s more Cut e = refl
+same_step b s more (Ok (Begins k)) e = refl
+same_step b s more (Ok (Frame n)) e = rw (same_body s more n (frame_there s n e).1) refl
+same_step b s more (Err x) e = refl
 
-pub step_more : (b : Between) (s more : List ℕ) → (item_of s ≡ Cut → ⊥) → step_of b (s ++ more) ≡ step_of b s
+pub step_more : (b : Between) (s more : List ℕ) → (item_of s ≡ Err Cut → ⊥) → step_of b (s ++ more) ≡ step_of b s
 step_more b s more n = ap (item_step b (s ++ more)) (enough s more n) ∙ same_step b s more (item_of s) refl
 
 -- of an item that is all there, or with which the input ends: its text, and then that of what it leaves
-pub text_on : (b : Between) (s more : List ℕ) → 1 ≤ length s → (item_of s ≡ Cut → ⊥) ⊎ (more ≡ [])
+pub text_on : (b : Between) (s more : List ℕ) → 1 ≤ length s → (item_of s ≡ Err Cut → ⊥) ⊎ (more ≡ [])
     → text_from b (s ++ more) ≡ (step_of b s).text ++ cond (step_of b s).stops [] (text_from (step_of b s).next (drop (size_of (item_of s)) s ++ more))
 text_on b s more l (inl n) =
     let d : drop (size_of (item_of (s ++ more))) (s ++ more) ≡ drop (size_of (item_of s)) s ++ more =
-    ap (λ (i : Item). drop (size_of i) (s ++ more)) (enough s more n) ∙ drop-append-le (size_of (item_of s)) s more (size_there s)
+    ap (λ (i : Found). drop (size_of i) (s ++ more)) (enough s more n) ∙ drop-append-le (size_of (item_of s)) s more (size_there s)
     in
     let h = length-append s more in
     text_step b (s ++ more) (omega (arith, l, h))

@@ -1,13 +1,11 @@
 -- What the program prints (document 01, "The printed account"): item by item, and the whole text as the text of the steps in order.
 -- Assumes nothing.
-use Rattle.std.specs.Prelude.{ℕ, zero, suc, ◌+◌, ◌%◌, ◌^◌, Bool, true, false, cond, not, List, [], ◌++◌, length, take, drop, nat_eq}
+use Rattle.std.specs.Prelude.{ℕ, zero, suc, ◌+◌, ◌%◌, ◌^◌, Bool, true, false, cond, not, List, [], ◌++◌, Ok, Err, length, take, drop, nat_eq}
 use Rattle.fields.specs.Choice.{◌when◌otherwise◌}
-use Rattle.items.specs.declared.Item.{Item}
 use Rattle.items.specs.declared.Key.{Key}
-use Rattle.items.specs.declared.Item.TheVariants.{Begins, Frame, Wrong, Cut}
-use Rattle.items.specs.Items.{item_of, size_of}
-use Rattle.reception.specs.declared.Taken.{Taken}
-use Rattle.reception.specs.declared.Taken.TheVariants.{Done, Refused}
+use Rattle.items.specs.declared.Item.TheVariants.{Begins, Frame}
+use Rattle.items.specs.Items.{Found, item_of, size_of}
+use Rattle.reception.specs.Answers.{Taken}
 use Rattle.reception.specs.Hearing.{Kept, Outcome, empty_kept, hear_frame}
 use Rattle.telling.specs.Account.{account_text, refused_line, bad_line, most_account}
 
@@ -50,8 +48,8 @@ bad_step b = record { text = bad_line b.offset; stops = true; next = b }
 
 -- "a refused one prints "refused", its place among all items from 1, its number", and both checks of 4 and 7
 abbrev pub answer_text : ℕ → Taken → List ℕ
-answer_text place Done = []
-answer_text place (Refused r) = refused_line place r
+answer_text place (Ok u) = []
+answer_text place (Err r) = refused_line place r
 
 -- a frame heard into the record that was begun, of the record's own bearer and period
 abbrev pub frame_step : Between → ℕ → Outcome → Step
@@ -66,11 +64,10 @@ abbrev pub key_step : Between → Key → Step
 key_step b k = record { text = account_before b; stops = false; next = after b 14 (empty_kept k.bearer k.period k.stamp places) }
 
 -- an item by what it is; "frame before a key" is bad input
-unfoldable pub item_step : Between → List ℕ → Item → Step
-item_step b input (Begins k) = key_step b k
-item_step b input (Frame n) = bad_step b when not b.begun otherwise frame_step b (4 + n) (heard_in b (take n (drop 4 input)))
-item_step b input Wrong = bad_step b
-item_step b input Cut = bad_step b
+unfoldable pub item_step : Between → List ℕ → Found → Step
+item_step b input (Ok (Begins k)) = key_step b k
+item_step b input (Ok (Frame n)) = bad_step b when not b.begun otherwise frame_step b (4 + n) (heard_in b (take n (drop 4 input)))
+item_step b input (Err e) = bad_step b
 
 -- the item in front of the input
 abbrev pub step_of : Between → List ℕ → Step

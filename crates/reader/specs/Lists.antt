@@ -1,7 +1,7 @@
 -- What reading lengths promises, and what its inner functions ask. Assumes nothing.
 use Rattle.std.specs.Prelude.{ℕ, ◌+◌, ◌≤◌, ◌<◌, ◌≡◌, List, length}
 use Rattle.frame.specs.declared.ClosingPdu.{ClosingPdu}
-use Rattle.frame.specs.declared.Listed.{Listed}
+use Rattle.frame.specs.Answers.{Listed}
 use Rattle.frame.specs.Layout.{filled}
 use Rattle.frame.specs.Listing.{list_lengths, listed}
 use Rattle.frame.specs.Paper.{listed_paper}

@@ -8,8 +8,7 @@ ghost use Rattle.reader.specs.Lists.{LengthsFit, Lists};
 
 use crate::read_frame;
 use frame::sizes::LENGTHS_HEAD;
-use frame::{ClosingPdu, Listed, Read};
-use units::refusals::NO_ROOM;
+use frame::{ClosingPdu, Read};
 use units::{Packets, Refusal};
 
 // The i-th length: the upper 12 bits of two octets, or the lower.
@@ -26,28 +25,24 @@ fn length_at(frame: &[u8], i: usize) -> u64
     ((upper & 15) << 8) | lower
 }
 
+#[tactic(auto, unfolding(frame::specs::Layout::sum_lengths))]
 fn sum_lengths(frame: &[u8], n: usize) -> u64
     requires { (n < 65536) × (lengths_head + filled n ≤ length frame.now) }
     ensures { result ≡ sum_lengths frame.now n }
 {
     let mut sum: u64 = 0;
-    let mut i: usize = 0;
-    while i < n {
-        sum = sum + length_at(frame, i);
-        i += 1;
+    for i in 0..n {
+        sum += length_at(frame, i);
     }
     sum
 }
 
+#[tactic(auto, unfolding(frame::specs::Counts::lengths_wrong))]
 pub fn lengths_wrong(frame: &[u8], c: ClosingPdu) -> bool
     requires { LengthsFit frame.now c }
     ensures { result ≡ lengths_wrong frame.now c }
 {
-    if counts::closing_wrong(c) {
-        return true;
-    }
-    let n = c.number.0 as usize;
-    sum_lengths(frame, n) != c.elapsed.0
+    counts::closing_wrong(c) || sum_lengths(frame, c.number.0 as usize) != c.elapsed.0
 }
 
 // The first n lengths, into the front of out.
@@ -55,34 +50,26 @@ fn list(frame: &[u8], n: usize, out: &mut [u16])
     requires { (n < 65536) × (lengths_head + filled n ≤ length frame.now) × (n ≤ length out.old) }
     ensures { out.new ≡ front out.old (lengths_of frame.now 0 n) }
 {
-    let mut i: usize = 0;
-    while i < n {
+    for i in 0..n {
         out[i] = length_at(frame, i) as u16;
-        i += 1;
     }
 }
 
 // Writes the lengths of a Type 3 frame into the front of out. A frame of another type has none.
-pub fn read_lengths(frame: &[u8], out: &mut [u16]) -> Listed
+#[tactic(auto, unfolding(frame::specs::Listing::list_lengths, frame::specs::Listing::listed, fields::specs::Runs::front, frame::specs::Layout::lengths_of), using(frame::proofs::OnePaper::read_known))]
+pub fn read_lengths(frame: &[u8], out: &mut [u16]) -> Result<Packets, Refusal>
     ensures { Lists frame.now out.old result out.new }
 {
-    let read = read_frame(frame);
-    match read {
+    match read_frame(frame) {
         Read::ClosingWithLengths(c) => {
-            let number = c.number;
-            let n = number.0 as usize;
+            let n = c.number.0 as usize;
             if out.len() < n {
-                return Listed::Refused(Refusal {
-                    number: NO_ROOM,
-                    found: 0,
-                    worked_out: 0,
-                });
+                return Err(Refusal::NoRoom);
             }
             list(frame, n, out);
-            Listed::Lengths(number)
+            Ok(c.number)
         }
-        Read::Refused(r) => Listed::Refused(r),
-        Read::Closing(_) => Listed::Lengths(Packets(0)),
-        Read::Data(_) => Listed::Lengths(Packets(0)),
+        Read::Refused(r) => Err(r),
+        Read::Closing(_) | Read::Data(_) => Ok(Packets(0)),
     }
 }

@@ -8,12 +8,11 @@ use native.Mathlib.Nat.{not-suc-le-zero}
 use lib.Dec.{ltb, eqb}
 use borrow.Author.Tests.{ltb-false, le-ltb, eqb-true, not-false}
 use Rattle.units.specs.Limits.{last_stamp, most_capacity}
-use Rattle.fields.proofs.Tests.{or_false, or_no}
+use Rattle.fields.proofs.Tests.{or_false, or_no, either}
 use Rattle.reception.specs.Sendings.{Held}
 use Rattle.reception.specs.Walk.{is_explained}
 use Rattle.frame.specs.Counts.{some_of}
 use Rattle.reception.specs.Damage.{Undamaged, place_wrong, places_wrong, closing_off, walk_fails, damaged_record}
-use Rattle.fields.proofs.Tests.{either}
 use Rattle.reception.proofs.Decided.{Sized, up_to, walk_explained, explained_walk}
 
 both_zero : (a b : ℕ) → some_of a b ≡ false → (a ≡ 0) × (b ≡ 0)

@@ -6,8 +6,7 @@ use mathlib.Core.Bool.{true, false}
 use mathlib.Core.List.{List}
 use lib.Dec.{ltb, leb}
 use lib.ListN.{length}
-use Rattle.units.specs.declared.Refusal.{Refusal}
-use Rattle.units.specs.Refusals.{other_sequence, beyond_capacity, contradiction, record_damaged, capacities_differ}
+use Rattle.units.specs.declared.refusals.Refusal.{Refusal}
 use Rattle.fields.specs.Choice.{◌when◌otherwise◌}
 use Rattle.fields.proofs.Choosing.{whichever, tested}
 use Rattle.frame.specs.declared.ClosingPdu.{ClosingPdu}
@@ -18,16 +17,17 @@ use Rattle.frame.specs.Reading.{read_frame}
 use Rattle.frame.specs.WrongChecks.{TellsOf}
 use Rattle.frame.proofs.Accepted.{no_data, no_closing, no_lengths}
 use Rattle.frame.proofs.ChecksTold.{zeros_told, refusal_told}
-use Rattle.reception.specs.declared.Taken.TheVariants.{Refused}
 use Rattle.reception.specs.Adding.{packet_contradicts, closing_contradicts}
 use Rattle.reception.specs.Hearing.{Kept, Outcome, refuses, takes, held_by, unmatched, damaged_kept, other_key, hear_packet, hear_closing, hear_read, hear_frame, taken_paper}
+use Rattle.std.specs.Prelude.{Err}
+use Rattle.units.specs.declared.refusals.Refusal.TheVariants.{CapacitiesDiffer, RecordDamaged, BeyondCapacity, Contradiction, OtherSequence}
 
 -- the refusals that are the record's, behind reading's: "13, 9, 10, 11"
-pub data OfRecord : ℕ → Type 0 where
-  damaged : OfRecord record_damaged
-  other : OfRecord other_sequence
-  beyond : OfRecord beyond_capacity
-  contradicting : OfRecord contradiction
+pub data OfRecord : Refusal → Type 0 where
+  damaged : OfRecord RecordDamaged
+  other : OfRecord OtherSequence
+  beyond : OfRecord BeyondCapacity
+  contradicting : OfRecord Contradiction
 
 -- reading refused nothing
 abbrev pub WasRead : Read → Type 0
@@ -35,9 +35,9 @@ WasRead x = (r : Refusal) → x ≡ NotRead r → ⊥
 
 -- what becomes of a record k and a frame that was read as x; refused, the record stays
 pub data Answered (k : Kept) (x : Read) : Outcome → Type 0 where
-  unmatched_lists : unmatched k ≡ true → Answered k x (refuses k capacities_differ)
-  unread : (r : Refusal) → x ≡ NotRead r → Answered k x (record { answer = Refused r; kept = k })
-  withheld : (n : ℕ) → OfRecord n → WasRead x → Answered k x (refuses k n)
+  unmatched_lists : unmatched k ≡ true → Answered k x (refuses k CapacitiesDiffer)
+  unread : (r : Refusal) → x ≡ NotRead r → Answered k x (record { answer = Err r; kept = k })
+  withheld : (n : Refusal) → OfRecord n → WasRead x → Answered k x (refuses k n)
   taken : (next : Kept) → WasRead x → Answered k x (takes next)
 
 module _ (k : Kept) (bearer period : ℕ) (x : Read) (w : WasRead x) where
@@ -60,7 +60,7 @@ module _ (k : Kept) (bearer period : ℕ) (x : Read) (w : WasRead x) where
       whichever (Answered k x) _ _ (closing_contradicts (held_by k) c.number.0 c.elapsed.0) (withheld _ contradicting w) (λ _. taken _ w)))
 
 module _ (k : Kept) (bearer period : ℕ) where
-  judged : (x : Read) (o : Outcome) → WasRead x → Answered k x o → Answered k x (refuses k record_damaged when damaged_kept k otherwise o)
+  judged : (x : Read) (o : Outcome) → WasRead x → Answered k x o → Answered k x (refuses k RecordDamaged when damaged_kept k otherwise o)
   judged x o w a = whichever (Answered k x) _ _ (damaged_kept k) (withheld _ damaged w) (λ _. a)
 
   read_answered : (x : Read) → Answered k x (hear_read k bearer period x)
@@ -82,7 +82,7 @@ module _ (k : Kept) (bearer period : ℕ) where
 
   -- where the lists match, what reading refused is refused so
   pub handed_on : (f : List ℕ) (r : Refusal) → unmatched k ≡ false → read_frame f ≡ NotRead r
-      → hear_frame k bearer period f ≡ record { answer = Refused r; kept = k }
+      → hear_frame k bearer period f ≡ record { answer = Err r; kept = k }
   unfolding hear_frame hear_read
   handed_on f r m e = rw (m, e) refl
 

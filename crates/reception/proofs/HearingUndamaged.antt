@@ -7,14 +7,12 @@ use lib.Dec.{ltb, leb}
 use lib.ListN.{length}
 use borrow.Author.Tests.{ltb-false, leb-false}
 use Rattle.units.specs.Limits.{last_stamp, most_capacity}
-use Rattle.units.specs.Refusals.{stamp_too_high, capacities_differ}
 use Rattle.fields.proofs.Choosing.{whichever}
 use Rattle.frame.specs.declared.ClosingPdu.{ClosingPdu}
 use Rattle.frame.specs.declared.DataPdu.{DataPdu}
 use Rattle.frame.specs.declared.Read.{Read}
 use Rattle.frame.specs.declared.Read.TheVariants.{Closing, Data, ClosingWithLengths, Refused as NotRead}
 use Rattle.frame.specs.Reading.{read_frame}
-use Rattle.reception.specs.declared.Taken.TheVariants.{Done}
 use Rattle.reception.specs.Sendings.{Held}
 use Rattle.reception.specs.Damage.{Undamaged, damaged_record}
 use Rattle.reception.specs.Adding.{packet_contradicts, closing_contradicts}
@@ -23,6 +21,8 @@ use Rattle.reception.proofs.DamagedExactly.{passed_undamaged, undamaged_passed}
 use Rattle.reception.proofs.KeptAsHeld.{lists_matched, matched_lists, held_packet, held_empty, empty_matched, packet_matched}
 use Rattle.reception.proofs.StaysUndamaged.{packet_added, closing_added, empty_undamaged}
 use Rattle.reception.proofs.WhatHearingAdds.{Sound, sound_lists, passed}
+use Rattle.std.specs.Prelude.{Ok}
+use Rattle.units.specs.declared.refusals.Refusal.TheVariants.{CapacitiesDiffer, StampTooHigh}
 
 -- what a sound record holds is undamaged
 pub sound_undamaged : (k : Kept) → Sound k → Undamaged k.head.stamp (held_by k)
@@ -104,12 +104,12 @@ pub record Fresh (bearer period stamp capacity : ℕ) (k : Kept) : Type 0 where
   pub sound : Sound k
 
 pub fresh_undamaged : (bearer period stamp : ℕ) (marks elapsed sizes : List ℕ)
-    → (fresh_record bearer period stamp marks elapsed sizes).answer ≡ Done
+    → (fresh_record bearer period stamp marks elapsed sizes).answer ≡ Ok tt
     → Fresh bearer period stamp (length marks) (fresh_record bearer period stamp marks elapsed sizes).kept
 unfolding fresh_record
 fresh_undamaged bearer period stamp marks elapsed sizes e =
-    let p1 = passed _ capacities_differ (lists_differ (length marks) (length elapsed) (length sizes)) _ e in
-    let p2 = passed _ stamp_too_high (ltb last_stamp stamp) _ p1.1 in
+    let p1 = passed _ CapacitiesDiffer (lists_differ (length marks) (length elapsed) (length sizes)) _ e in
+    let p2 = passed _ StampTooHigh (ltb last_stamp stamp) _ p1.1 in
     let m = lists_matched marks elapsed sizes p1.0 in
     let w : (fresh_record bearer period stamp marks elapsed sizes).kept ≡ empty_kept bearer period stamp (length marks) = simp (p1.0, p2.0) in
     record { kept_is = w; sound = rw w (empty_sound bearer period stamp (length marks) (ltb-false _ _ p2.0) m.room) }

@@ -9,11 +9,9 @@ use native.Mathlib.Omega.{arith}
 use lib.Dec.{ltb, eqb}
 use lib.ListN.{length}
 use borrow.Author.Tests.{ltb-true, ltb-false, eqb-true, eq-eqb, not-false}
-use Rattle.units.specs.Refusals.{other_sequence, record_damaged, capacities_differ}
-use Rattle.units.specs.declared.Refusal.{Refusal}
+use Rattle.units.specs.declared.refusals.Refusal.{Refusal}
 use Rattle.fields.specs.Choice.{◌when◌otherwise◌}
 use Rattle.fields.proofs.Tests.{either, both, or_false}
-use Rattle.reception.specs.declared.Joined.TheVariants.{Done, Contradicted, Refused}
 use Rattle.reception.specs.Sendings.{Held, Heard, Sent, Whole, Explains, Explained}
 use Rattle.reception.specs.Walk.{is_heard}
 use Rattle.reception.specs.Adding.{packet_contradicts, closing_contradicts}
@@ -24,6 +22,9 @@ use Rattle.reception.proofs.ContradictsExactly.{packet_agrees, agreeing_packet, 
 use Rattle.reception.proofs.KeptAsHeld.{SameKey}
 use Rattle.reception.proofs.WhatHearingAdds.{Sound, own_key}
 use Rattle.reception.proofs.ExplainedTogether.{Together, heard_left}
+use Rattle.std.specs.Prelude.{Ok, Err}
+use Rattle.reception.specs.declared.NotJoined.TheVariants.{Contradicts, Refused}
+use Rattle.units.specs.declared.refusals.Refusal.TheVariants.{CapacitiesDiffer, OtherSequence, RecordDamaged}
 
 -- neither 14, 13 nor 9 applies to two records
 pub record Joinable (a b : Kept) : Type 0 where
@@ -50,18 +51,18 @@ joinable_judged a b j =
 
 -- an answer that is no refusal of 14, 13 or 9 passed the first test of a chain
 abbrev NotRefused : JoinOutcome → Type 0
-NotRefused o = (r : Refusal) → o.answer ≡ Refused r → ⊥
+NotRefused o = (r : Refusal) → o.answer ≡ Err (Refused r) → ⊥
 
-not_first : (k : Kept) (n : ℕ) (t : Bool) (o : JoinOutcome) → NotRefused (refuses_join k n when t otherwise o) → (t ≡ false) × NotRefused o
+not_first : (k : Kept) (n : Refusal) (t : Bool) (o : JoinOutcome) → NotRefused (refuses_join k n when t otherwise o) → (t ≡ false) × NotRefused o
 not_first k n true o f = absurd (f _ refl)
 not_first k n false o f = (refl, f)
 
 pub not_refused_joinable : (a b : Kept) → NotRefused (join_records a b) → Joinable a b
 unfolding join_records
 not_refused_joinable a b f =
-    let p = not_first a capacities_differ (capacities_off a b) _ f in
-    let q = not_first a record_damaged (damaged_kept a || damaged_kept b) _ p.1 in
-    let o = not_first a other_sequence (other_record a b) _ q.1 in
+    let p = not_first a CapacitiesDiffer (capacities_off a b) _ f in
+    let q = not_first a RecordDamaged (damaged_kept a || damaged_kept b) _ p.1 in
+    let o = not_first a OtherSequence (other_record a b) _ q.1 in
     let m = or_false (unmatched a) _ p.0 in
     let n = or_false (unmatched b) (not (eqb (length a.marks) (length b.marks))) m.1 in
     let d = or_false (damaged_kept a) (damaged_kept b) q.0 in
@@ -72,10 +73,10 @@ not_refused_joinable a b f =
       long = eqb-true _ _ (not-false _ n.1);
     }
 
-pub done_joinable : (a b : Kept) → (join_records a b).answer ≡ Done → Joinable a b
+pub done_joinable : (a b : Kept) → (join_records a b).answer ≡ Ok tt → Joinable a b
 done_joinable a b e = not_refused_joinable a b (λ r f. let z : ◌≡◌ {A = ℕ} 0 1 = cc in omega arith)
 
-pub contradicted_joinable : (a b : Kept) (n : ℕ) → (join_records a b).answer ≡ Contradicted n → Joinable a b
+pub contradicted_joinable : (a b : Kept) (n : ℕ) → (join_records a b).answer ≡ Err (Contradicts n) → Joinable a b
 contradicted_joinable a b n e = not_refused_joinable a b (λ r f. let z : ◌≡◌ {A = ℕ} 0 1 = cc in omega arith)
 
 -- m is the lowest number from k on, below end, at which the right contradicts, or end where none is

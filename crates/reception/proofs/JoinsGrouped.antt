@@ -7,8 +7,7 @@ use mathlib.Core.List.{List}
 use lib.Dec.{eqb}
 use Rattle.fields.proofs.Tests.{either}
 use Rattle.reception.specs.declared.Head.{Head}
-use Rattle.reception.specs.declared.Joined.{Joined}
-use Rattle.reception.specs.declared.Joined.TheVariants.{Done}
+use Rattle.reception.specs.Answers.{Joined}
 use Rattle.reception.specs.Sendings.{Held, Explains}
 use Rattle.reception.specs.Hearing.{Kept, held_by}
 use Rattle.reception.specs.Joining.{union, joined_kept, JoinOutcome, joins, join_records}
@@ -19,6 +18,7 @@ use Rattle.reception.proofs.JoinJudged.{Joinable, same_key, done_joinable}
 use Rattle.reception.proofs.JoinRefusedExactly.{together_joins, done_together, done_joins}
 use Rattle.reception.proofs.WhatJoiningAdds.{joinable_held, joined_sound}
 use Rattle.reception.proofs.LawsOfJoining.{own_record, joined_same}
+use Rattle.std.specs.Prelude.{Ok}
 
 -- three choices in a row
 cond_assoc : (m n x y z : ℕ) → cond (eqb (cond (eqb m 1) m n) 1) (cond (eqb m 1) x y) z ≡ cond (eqb m 1) x (cond (eqb n 1) y z)
@@ -98,13 +98,13 @@ module _ (a b c : Kept) (t : Three a b c) where
 
 -- the first two are joined first, and both joins are accepted
 pub record LeftFirst (a b c : Kept) : Type 0 where
-  pub first : (join_records a b).answer ≡ Done
-  pub then : (join_records (join_records a b).kept c).answer ≡ Done
+  pub first : (join_records a b).answer ≡ Ok tt
+  pub then : (join_records (join_records a b).kept c).answer ≡ Ok tt
 
 -- or the last two
 pub record RightFirst (a b c : Kept) : Type 0 where
-  pub first : (join_records b c).answer ≡ Done
-  pub then : (join_records a (join_records b c).kept).answer ≡ Done
+  pub first : (join_records b c).answer ≡ Ok tt
+  pub then : (join_records a (join_records b c).kept).answer ≡ Ok tt
 
 abbrev answer_of : JoinOutcome → Joined
 answer_of o = o.answer
@@ -130,7 +130,7 @@ left_three : (a b c : Kept) → LeftFirst a b c → Three a b c
 left_three a b c f =
     let i = done_joinable a b f.first in
     let t = done_together a b i f.first in
-    let e : (join_records (joined_kept a b) c).answer ≡ Done = rw (done_joins a b f.first) at f.then in
+    let e : (join_records (joined_kept a b) c).answer ≡ Ok tt = rw (done_joins a b f.first) at f.then in
     let j = done_joinable (joined_kept a b) c e in
     let k = same_key a b i in
     let l = same_key (joined_kept a b) c j in
@@ -160,7 +160,7 @@ right_three : (a b c : Kept) → RightFirst a b c → Three a b c
 right_three a b c f =
     let i = done_joinable b c f.first in
     let t = done_together b c i f.first in
-    let e : (join_records a (joined_kept b c)).answer ≡ Done = rw (done_joins b c f.first) at f.then in
+    let e : (join_records a (joined_kept b c)).answer ≡ Ok tt = rw (done_joins b c f.first) at f.then in
     let j = done_joinable a (joined_kept b c) e in
     let l = same_key a (joined_kept b c) j in
     let u = done_together a (joined_kept b c) j e in

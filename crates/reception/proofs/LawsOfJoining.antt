@@ -10,7 +10,6 @@ use lib.ListN.{length, length-replicate}
 use borrow.Author.Tests.{eqb-true, eqb-false}
 use Rattle.fields.proofs.Choosing.{pick_same}
 use Rattle.reception.specs.declared.Head.{Head}
-use Rattle.reception.specs.declared.Joined.TheVariants.{Done}
 use Rattle.reception.specs.Sendings.{Held, Heard, Explains}
 use Rattle.reception.specs.Walk.{is_heard}
 use Rattle.reception.specs.Damage.{Undamaged}
@@ -26,6 +25,7 @@ use Rattle.reception.proofs.ExplainedTogether.{Together, heard_left}
 use Rattle.reception.proofs.JoinJudged.{Joinable, same_key, done_joinable}
 use Rattle.reception.proofs.JoinRefusedExactly.{sound_explained, together_joins, done_together}
 use Rattle.reception.proofs.WhatJoiningAdds.{joinable_held}
+use Rattle.std.specs.Prelude.{Ok}
 
 -- records of one key
 pub own_record : (a b : Kept) → SameKey a.head b.head → other_record a b ≡ false
@@ -94,7 +94,7 @@ joined_same a b c d j i k s =
     (subst (Same (union (held_by a) (held_by b))) (sym (joinable_held c d i)) s))
 
 -- whichever is the left one: the same record comes out, or neither join is accepted
-pub either_order : (a b : Kept) → (join_records a b).answer ≡ Done → join_records b a ≡ join_records a b
+pub either_order : (a b : Kept) → (join_records a b).answer ≡ Ok tt → join_records b a ≡ join_records a b
 either_order a b e =
     let j = done_joinable a b e in
     let i = swapped a b j in

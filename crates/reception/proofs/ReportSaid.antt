@@ -7,12 +7,10 @@ use native.Mathlib.Omega.{arith}
 use lib.Dec.{ltb}
 use lib.ListN.{length, take}
 use borrow.Author.Tests.{lt-ltb, le-ltb, ltb-false}
-use Rattle.units.specs.Refusals.{refusing, no_room, record_damaged, capacities_differ}
 use Rattle.fields.specs.Choice.{◌when◌otherwise◌}
 use Rattle.fields.proofs.Choosing.{past}
 use Rattle.reception.specs.declared.Report.{Report}
-use Rattle.reception.specs.declared.Reported.{Reported}
-use Rattle.reception.specs.declared.Reported.TheVariants.{Done, Refused}
+use Rattle.reception.specs.Answers.{Reported}
 use Rattle.reception.specs.Sendings.{Held, Explains}
 use Rattle.reception.specs.Hearing.{Kept, held_by, unmatched, damaged_kept}
 use Rattle.reception.specs.Reporting.{gaps_of, sent_packets, report_of, report_record}
@@ -20,29 +18,32 @@ use Rattle.reception.specs.Missing.{Accounts, Says, AddsUp, GapsRight}
 use Rattle.reception.proofs.WhatHearingAdds.{Sound}
 use Rattle.reception.proofs.HearingUndamaged.{sound_undamaged}
 use Rattle.reception.proofs.ReportAccounts.{closed_accounts, open_accounts, adds_up, gaps_right}
+use Rattle.std.specs.Prelude.{Ok, Err}
+use Rattle.units.specs.declared.refusals.Refusal.TheVariants.{CapacitiesDiffer, NoRoom, RecordDamaged}
+use Rattle.units.specs.declared.refusals.Refusal.{Refusal}
 
 -- the tests in their order
 module _ (k : Kept) (room : ℕ) where
-  pub report_unmatched : unmatched k ≡ true → report_record k room ≡ Refused (refusing capacities_differ)
+  pub report_unmatched : unmatched k ≡ true → report_record k room ≡ Err CapacitiesDiffer
   unfolding report_record
   report_unmatched m = rw m refl
 
-  pub report_damaged : unmatched k ≡ false → damaged_kept k ≡ true → report_record k room ≡ Refused (refusing record_damaged)
+  pub report_damaged : unmatched k ≡ false → damaged_kept k ≡ true → report_record k room ≡ Err RecordDamaged
   unfolding report_record
   report_damaged m d = rw (m, d) refl
 
-  pub report_no_room : Sound k → room < length (gaps_of (held_by k)) → report_record k room ≡ Refused (refusing no_room)
+  pub report_no_room : Sound k → room < length (gaps_of (held_by k)) → report_record k room ≡ Err NoRoom
   unfolding report_record
   report_no_room s h = rw (s.matched, s.undamaged, lt-ltb room (length (gaps_of (held_by k))) h) refl
 
   -- a sound record with room for its gaps is reported on
-  pub report_done : Sound k → length (gaps_of (held_by k)) ≤ room → report_record k room ≡ Done (report_of (held_by k))
+  pub report_done : Sound k → length (gaps_of (held_by k)) ≤ room → report_record k room ≡ Ok (report_of (held_by k))
   unfolding report_record
   report_done s h = rw (s.matched, s.undamaged, le-ltb room (length (gaps_of (held_by k))) h) refl
 
 -- an accepted report passed the first test of a chain
-passed : (n : ℕ) (b : Bool) (o : Reported) (t : Report) → (Refused (refusing n) when b otherwise o) ≡ Done t → (b ≡ false) × (o ≡ Done t)
-passed n b o t e = past (Refused (refusing n)) o (Done t) b (λ q. let z : ◌≡◌ {A = ℕ} 0 1 = cc in omega (arith, z)) e
+passed : (n : Refusal) (b : Bool) (o : Reported) (t : Report) → (Err n when b otherwise o) ≡ Ok t → (b ≡ false) × (o ≡ Ok t)
+passed n b o t e = past (Err n) o (Ok t) b (λ q. let z : ◌≡◌ {A = ℕ} 0 1 = cc in omega (arith, z)) e
 
 -- an accepted report is that of a sound record, and there was room for its gaps
 pub record Given (k : Kept) (room : ℕ) (t : Report) : Type 0 where
@@ -50,12 +51,12 @@ pub record Given (k : Kept) (room : ℕ) (t : Report) : Type 0 where
   pub fits : length (gaps_of (held_by k)) ≤ room
   pub report_is : t ≡ report_of (held_by k)
 
-pub report_given : (k : Kept) (room : ℕ) (t : Report) → report_record k room ≡ Done t → Given k room t
+pub report_given : (k : Kept) (room : ℕ) (t : Report) → report_record k room ≡ Ok t → Given k room t
 unfolding report_record
 report_given k room t e =
-    let p1 = passed capacities_differ (unmatched k) _ t e in
-    let p2 = passed record_damaged (damaged_kept k) _ t p1.1 in
-    let p3 = passed no_room (ltb room (length (gaps_of (held_by k)))) (Done (report_of (held_by k))) t p2.1 in
+    let p1 = passed CapacitiesDiffer (unmatched k) _ t e in
+    let p2 = passed RecordDamaged (damaged_kept k) _ t p1.1 in
+    let p3 = passed NoRoom (ltb room (length (gaps_of (held_by k)))) (Ok (report_of (held_by k))) t p2.1 in
     let same : report_of (held_by k) ≡ t = cc p3.1 in
     record { sound = record { matched = p1.0; undamaged = p2.0 }; fits = ltb-false _ _ p3.0; report_is = sym same }
 
@@ -74,7 +75,7 @@ said r t s e a = subst (λ (x : Report). Says x r s) (sym e) says
           gaps = refl;
         }
 
-module _ (k : Kept) (room : ℕ) (t : Report) (e : report_record k room ≡ Done t) where
+module _ (k : Kept) (room : ℕ) (t : Report) (e : report_record k room ≡ Ok t) where
   -- of a closed record, for every sending that explains it
   pub closed_said : (s : List ℕ) → k.head.closed ≡ true → Explains (held_by k) s → Says t (held_by k) s
   closed_said s c x =

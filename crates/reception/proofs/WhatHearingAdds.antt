@@ -8,7 +8,6 @@ use mathlib.Core.List.{List}
 use lib.Dec.{ltb, leb, eqb}
 use lib.ListN.{length}
 use borrow.Author.Tests.{ltb-false, leb-false, le-ltb, lt-leb, eqb-true, eq-eqb, not-false}
-use Rattle.units.specs.Refusals.{other_sequence, beyond_capacity, contradiction, record_damaged, capacities_differ}
 use Rattle.fields.specs.Choice.{◌when◌otherwise◌}
 use Rattle.fields.proofs.Tests.{or_false}
 use Rattle.frame.specs.declared.ClosingPdu.{ClosingPdu}
@@ -16,14 +15,16 @@ use Rattle.frame.specs.declared.DataPdu.{DataPdu}
 use Rattle.frame.specs.declared.Read.TheVariants.{Closing, Data, ClosingWithLengths}
 use Rattle.frame.specs.Reading.{read_frame}
 use Rattle.reception.specs.declared.Head.{Head}
-use Rattle.reception.specs.declared.Taken.TheVariants.{Done}
 use Rattle.reception.specs.Adding.{with_packet, with_closing, packet_contradicts, closing_contradicts}
 use Rattle.reception.specs.Hearing.{Kept, Outcome, held_by, refuses, takes, unmatched, damaged_kept, other_key, keep_packet, keep_closing, hear_packet, hear_closing, hear_read, hear_frame}
 use Rattle.reception.proofs.KeptAsHeld.{MatchedKept, lists_matched, held_packet, SameKey}
 use Rattle.reception.proofs.RefusalChangesNothing.{done_not_refused}
+use Rattle.std.specs.Prelude.{Ok}
+use Rattle.units.specs.declared.refusals.Refusal.TheVariants.{BeyondCapacity, CapacitiesDiffer, Contradiction, OtherSequence, RecordDamaged}
+use Rattle.units.specs.declared.refusals.Refusal.{Refusal}
 
 -- an accepted frame passed the first test of a chain
-pub passed : (k : Kept) (n : ℕ) (t : Bool) (o : Outcome) → (refuses k n when t otherwise o).answer ≡ Done → (t ≡ false) × (o.answer ≡ Done)
+pub passed : (k : Kept) (n : Refusal) (t : Bool) (o : Outcome) → (refuses k n when t otherwise o).answer ≡ Ok tt → (t ≡ false) × (o.answer ≡ Ok tt)
 passed k n true o e = absurd (done_not_refused _ (sym e))
 passed k n false o e = (refl, e)
 
@@ -58,15 +59,15 @@ pub record PacketFits (k : Kept) (bearer period : ℕ) (d : DataPdu) : Type 0 wh
   pub agrees : packet_contradicts (held_by k) d.number.0 d.elapsed.0 d.length.0 ≡ false
 
 pub data_accepted : (k : Kept) (bearer period : ℕ) (f : List ℕ) (d : DataPdu) → read_frame f ≡ Data d
-    → (hear_frame k bearer period f).answer ≡ Done → Sound k × PacketFits k bearer period d
+    → (hear_frame k bearer period f).answer ≡ Ok tt → Sound k × PacketFits k bearer period d
 unfolding hear_frame hear_read hear_packet
 data_accepted k bearer period f d e a =
-    let p1 = passed k capacities_differ (unmatched k) _ a in
-    let h : (hear_read k bearer period (Data d)).answer ≡ Done = rw e at p1.1 in
-    let p2 = passed k record_damaged (damaged_kept k) _ h in
-    let p3 = passed k other_sequence (other_key k.head bearer period d.stamp) _ p2.1 in
-    let p4 = passed k beyond_capacity (leb (length k.marks) d.number.0) _ p3.1 in
-    let p5 = passed k contradiction (packet_contradicts (held_by k) d.number.0 d.elapsed.0 d.length.0) _ p4.1 in
+    let p1 = passed k CapacitiesDiffer (unmatched k) _ a in
+    let h : (hear_read k bearer period (Data d)).answer ≡ Ok tt = rw e at p1.1 in
+    let p2 = passed k RecordDamaged (damaged_kept k) _ h in
+    let p3 = passed k OtherSequence (other_key k.head bearer period d.stamp) _ p2.1 in
+    let p4 = passed k BeyondCapacity (leb (length k.marks) d.number.0) _ p3.1 in
+    let p5 = passed k Contradiction (packet_contradicts (held_by k) d.number.0 d.elapsed.0 d.length.0) _ p4.1 in
     (record { matched = p1.0; undamaged = p2.0 }, record { own = p3.0; below = leb-false _ _ p4.0; agrees = p5.0 })
 
 -- a sound record goes on to what the frame says
@@ -90,7 +91,7 @@ pub record PacketHeard (k : Kept) (d : DataPdu) (after : Kept) : Type 0 where
   pub same_head : after.head ≡ k.head
 
 pub packet_heard : (k : Kept) (bearer period : ℕ) (f : List ℕ) (d : DataPdu) → read_frame f ≡ Data d
-    → (hear_frame k bearer period f).answer ≡ Done → PacketHeard k d (hear_frame k bearer period f).kept
+    → (hear_frame k bearer period f).answer ≡ Ok tt → PacketHeard k d (hear_frame k bearer period f).kept
 packet_heard k bearer period f d e a =
     let p = data_accepted k bearer period f d e a in
     let q = ap (λ (o : Outcome). o.kept) (data_taken k bearer period f d e p.0 p.1) in
@@ -120,24 +121,24 @@ heard_closing k bearer period f c e s =
 
 -- only a sound record takes a closing
 closing_sound : (k : Kept) (bearer period : ℕ) (f : List ℕ) (c : ClosingPdu) → ReadAsClosing f c
-    → (hear_frame k bearer period f).answer ≡ Done → Sound k
+    → (hear_frame k bearer period f).answer ≡ Ok tt → Sound k
 unfolding hear_frame hear_read
 closing_sound k bearer period f c e a =
-    let p1 = passed k capacities_differ (unmatched k) _ a in
-    let go : (hear_read k bearer period (Closing c)).answer ≡ Done → Sound k =
-    λ h. record { matched = p1.0; undamaged = (passed k record_damaged (damaged_kept k) _ h).0 }
+    let p1 = passed k CapacitiesDiffer (unmatched k) _ a in
+    let go : (hear_read k bearer period (Closing c)).answer ≡ Ok tt → Sound k =
+    λ h. record { matched = p1.0; undamaged = (passed k RecordDamaged (damaged_kept k) _ h).0 }
     in
     ⊎_elim (λ (t : read_frame f ≡ Closing c). go (rw t at p1.1)) (λ (t : read_frame f ≡ ClosingWithLengths c). go (rw t at p1.1)) e
 
 pub closing_accepted : (k : Kept) (bearer period : ℕ) (f : List ℕ) (c : ClosingPdu) → ReadAsClosing f c
-    → (hear_frame k bearer period f).answer ≡ Done → Sound k × ClosingFits k bearer period c
+    → (hear_frame k bearer period f).answer ≡ Ok tt → Sound k × ClosingFits k bearer period c
 unfolding hear_closing
 closing_accepted k bearer period f c e a =
     let s = closing_sound k bearer period f c e a in
-    let h : (hear_closing k bearer period c).answer ≡ Done = rw (heard_closing k bearer period f c e s) at a in
-    let p1 = passed k other_sequence (other_key k.head bearer period c.stamp) _ h in
-    let p2 = passed k beyond_capacity (ltb (length k.marks) c.number.0) _ p1.1 in
-    let p3 = passed k contradiction (closing_contradicts (held_by k) c.number.0 c.elapsed.0) _ p2.1 in
+    let h : (hear_closing k bearer period c).answer ≡ Ok tt = rw (heard_closing k bearer period f c e s) at a in
+    let p1 = passed k OtherSequence (other_key k.head bearer period c.stamp) _ h in
+    let p2 = passed k BeyondCapacity (ltb (length k.marks) c.number.0) _ p1.1 in
+    let p3 = passed k Contradiction (closing_contradicts (held_by k) c.number.0 c.elapsed.0) _ p2.1 in
     (s, record { own = p1.0; within = ltb-false _ _ p2.0; agrees = p3.0 })
 
 pub closing_taken : (k : Kept) (bearer period : ℕ) (f : List ℕ) (c : ClosingPdu) → ReadAsClosing f c → Sound k → ClosingFits k bearer period c
@@ -154,7 +155,7 @@ pub record ClosingHeard (k : Kept) (c : ClosingPdu) (after : Kept) : Type 0 wher
   pub same_key : SameKey after.head k.head
 
 pub closing_heard : (k : Kept) (bearer period : ℕ) (f : List ℕ) (c : ClosingPdu) → ReadAsClosing f c
-    → (hear_frame k bearer period f).answer ≡ Done → ClosingHeard k c (hear_frame k bearer period f).kept
+    → (hear_frame k bearer period f).answer ≡ Ok tt → ClosingHeard k c (hear_frame k bearer period f).kept
 closing_heard k bearer period f c e a =
     let p = closing_accepted k bearer period f c e a in
     let q = ap (λ (o : Outcome). o.kept) (closing_taken k bearer period f c e p.0 p.1) in

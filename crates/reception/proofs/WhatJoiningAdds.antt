@@ -7,8 +7,7 @@ use native.Mathlib.Omega.{arith}
 use borrow.Author.Tests.{eqb-true, eq-eqb}
 use Rattle.fields.proofs.Choosing.{pick_yes, pick_no}
 use Rattle.fields.proofs.Tests.{either, or_false}
-use Rattle.reception.specs.declared.Joined.{Joined}
-use Rattle.reception.specs.declared.Joined.TheVariants.{Done, Contradicted, Refused}
+use Rattle.reception.specs.Answers.{Joined}
 use Rattle.reception.specs.Sendings.{Held, Heard}
 use Rattle.reception.specs.Walk.{is_heard}
 use Rattle.reception.specs.Damage.{Undamaged, damaged_record}
@@ -22,6 +21,8 @@ use Rattle.reception.proofs.JoinedAsHeld.{joined_held, joined_matched}
 use Rattle.reception.proofs.ExplainedTogether.{Together, or_right, or_left, or_second, heard_left, heard_right, explains_union}
 use Rattle.reception.proofs.JoinJudged.{Joinable, done_joinable}
 use Rattle.reception.proofs.JoinRefusedExactly.{done_joins, done_together, join_refusal_changes_nothing}
+use Rattle.std.specs.Prelude.{Ok, Err}
+use Rattle.reception.specs.declared.NotJoined.TheVariants.{Contradicts, Refused}
 
 -- two numbers of a packet, or of a closing, are those
 abbrev pub Pair : ℕ → ℕ → ℕ → ℕ → Type 0
@@ -80,7 +81,7 @@ pub record JoinedBoth (a b after : Kept) : Type 0 where
 pub joinable_held : (a b : Kept) → Joinable a b → held_by (joined_kept a b) ≡ union (held_by a) (held_by b)
 joinable_held a b j = joined_held a b (sound_lists a j.left) (sound_lists b j.right) j.long
 
-pub holds_either : (a b : Kept) → (join_records a b).answer ≡ Done → JoinedBoth a b (join_records a b).kept
+pub holds_either : (a b : Kept) → (join_records a b).answer ≡ Ok tt → JoinedBoth a b (join_records a b).kept
 holds_either a b e =
     let j = done_joinable a b e in
     let t = done_together a b j e in
@@ -128,10 +129,10 @@ joined_sound a b j t =
           (union_undamaged _ _ (held_by a) (held_by b) j.long (sound_undamaged a j.left) (sound_undamaged b j.right) t));
     }
 
-done_or_not : (o : Joined) → (o ≡ Done) ⊎ (o ≡ Done → ⊥)
-done_or_not Done = inl refl
-done_or_not (Contradicted n) = inr (λ e. let z : ◌≡◌ {A = ℕ} 0 1 = cc in omega arith)
-done_or_not (Refused r) = inr (λ e. let z : ◌≡◌ {A = ℕ} 0 1 = cc in omega arith)
+done_or_not : (o : Joined) → (o ≡ Ok tt) ⊎ (o ≡ Ok tt → ⊥)
+done_or_not (Ok u) = inl refl
+done_or_not (Err (Contradicts n)) = inr (λ e. let z : ◌≡◌ {A = ℕ} 0 1 = cc in omega arith)
+done_or_not (Err (Refused r)) = inr (λ e. let z : ◌≡◌ {A = ℕ} 0 1 = cc in omega arith)
 
 -- joining makes no record damaged, nor its lists of different lengths, whatever the answer
 pub join_undamaged : (a b : Kept) → Sound a → Sound (join_records a b).kept

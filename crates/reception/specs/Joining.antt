@@ -1,16 +1,17 @@
 -- Two records of one sequence joined: what comes out, and what contradicts (document 01, "Joining: 14, 13, 9, 11" and "The reception
 -- record"). Assumes nothing.
-use Rattle.std.specs.Prelude.{ℕ, zero, suc, ◌≡◌, Bool, true, cond, not, ◌||◌, ◌&&◌, ◌⊎◌, ◌↔◌, List, [], ◌∷◌, ltb, eqb, length}
-use Rattle.units.specs.Refusals.{refusing, other_sequence, contradiction, record_damaged, capacities_differ}
+use Rattle.std.specs.Prelude.{ℕ, zero, suc, ◌≡◌, Bool, true, cond, not, ◌||◌, ◌&&◌, ◌⊎◌, ◌↔◌, List, [], ◌∷◌, ltb, eqb, length, Ok, Err}
+use Rattle.units.specs.Refusals.{number_of, found_of, worked_of, contradiction}
+use Rattle.units.specs.declared.refusals.Refusal.{Refusal}
 use Rattle.fields.specs.Choice.{◌when◌otherwise◌}
 use Rattle.reception.specs.declared.Head.{Head}
-use Rattle.reception.specs.declared.Joined.{Joined}
-use Rattle.reception.specs.declared.Joined.TheVariants.{Done, Contradicted, Refused}
-use Rattle.reception.specs.declared.Joining.{Joining}
+use Rattle.reception.specs.Answers.{Joined, Joining}
 use Rattle.reception.specs.Sendings.{Held, Heard}
 use Rattle.reception.specs.Walk.{is_heard}
 use Rattle.reception.specs.Adding.{packet_contradicts, closing_contradicts}
 use Rattle.reception.specs.Hearing.{Kept, kept_in, held_by, unmatched, damaged_kept, other_key}
+use Rattle.reception.specs.declared.NotJoined.TheVariants.{Contradicts, Refused}
+use Rattle.units.specs.declared.refusals.Refusal.TheVariants.{CapacitiesDiffer, OtherSequence, RecordDamaged}
 
 -- what either heard: at a place that the left heard, what the left holds, elsewhere what the right does
 abbrev pub union : Held → Held → Held
@@ -83,16 +84,16 @@ pub record JoinOutcome : Type 0 where
   pub kept : Kept
 
 -- a refusal, and the left record as it was
-abbrev pub refuses_join : Kept → ℕ → JoinOutcome
-refuses_join k n = record { answer = Refused (refusing n); kept = k }
+abbrev pub refuses_join : Kept → Refusal → JoinOutcome
+refuses_join k r = record { answer = Err (Refused r); kept = k }
 
 -- refusal 11 and the number that it names
 abbrev pub contradicts : Kept → ℕ → JoinOutcome
-contradicts k n = record { answer = Contradicted n; kept = k }
+contradicts k n = record { answer = Err (Contradicts n); kept = k }
 
 -- an accepted join, with the record that it leaves
 abbrev pub joins : Kept → JoinOutcome
-joins k = record { answer = Done; kept = k }
+joins k = record { answer = Ok tt; kept = k }
 
 -- refusal 14, of two records: "capacities (or one record's lists) differ"
 abbrev pub capacities_off : Kept → Kept → Bool
@@ -109,9 +110,9 @@ closing_named = 65536
 -- "Joining writes to the left record and only reads the right"; "Joining: 14, 13, 9, 11"
 unfoldable pub join_records : Kept → Kept → JoinOutcome
 join_records a b =
-    refuses_join a capacities_differ when capacities_off a b otherwise
-    refuses_join a record_damaged when damaged_kept a || damaged_kept b otherwise
-    refuses_join a other_sequence when other_record a b otherwise
+    refuses_join a CapacitiesDiffer when capacities_off a b otherwise
+    refuses_join a RecordDamaged when damaged_kept a || damaged_kept b otherwise
+    refuses_join a OtherSequence when other_record a b otherwise
     contradicts a (lowest (held_by a) (held_by b)) when ltb (lowest (held_by a) (held_by b)) (length a.marks) otherwise
     contradicts a closing_named when own_closing_off (held_by a) (held_by b) otherwise
     joins (joined_kept a b)
@@ -126,9 +127,9 @@ pub record JoinPaper : Type 0 where
   pub named : ℕ
 
 unfoldable pub joined_paper : Joined → JoinPaper
-joined_paper Done = record { number = 0; found = 0; worked = 0; accepted = 1; names = 0; named = 0 }
-joined_paper (Contradicted n) = record { number = contradiction; found = 0; worked = 0; accepted = 0; names = 1; named = n }
-joined_paper (Refused r) = record { number = r.number; found = r.found; worked = r.worked_out; accepted = 0; names = 0; named = 0 }
+joined_paper (Ok u) = record { number = 0; found = 0; worked = 0; accepted = 1; names = 0; named = 0 }
+joined_paper (Err (Contradicts n)) = record { number = contradiction; found = 0; worked = 0; accepted = 0; names = 1; named = n }
+joined_paper (Err (Refused r)) = record { number = number_of r; found = found_of r; worked = worked_of r; accepted = 0; names = 0; named = 0 }
 
 -- the promise: answer, head and every place of the left's lists are as t says
 pub record Joins (t : JoinOutcome) (r : Joining) (marks elapsed sizes : List ℕ) : Type 0 where

@@ -1,7 +1,9 @@
 pub mod Adding
+pub mod Answers
 pub mod Damage
 pub mod Hearing
 pub mod Joining
+pub mod Lent
 pub mod Missing
 pub mod Neighbours
 pub mod OneSequence

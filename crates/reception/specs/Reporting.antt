@@ -1,16 +1,16 @@
 -- What a report says of a record (document 01, "The report gives sent, heard and missing packets and octets, and the gaps in rising
 -- order as first number, count, octets"). Assumes nothing.
-use Rattle.std.specs.Prelude.{ℕ, zero, suc, ◌+◌, ◌-◌, min, ◌≡◌, cond, List, [], ◌∷◌, ◌++◌, map, ltb, eqb, length}
-use Rattle.units.specs.Refusals.{refusing, no_room, record_damaged, capacities_differ}
+use Rattle.std.specs.Prelude.{ℕ, zero, suc, ◌+◌, ◌-◌, min, ◌≡◌, cond, List, [], ◌∷◌, ◌++◌, map, ltb, eqb, length, Ok, Err}
+use Rattle.units.specs.Refusals.{number_of, found_of, worked_of}
 use Rattle.fields.specs.Choice.{◌when◌otherwise◌}
 use Rattle.fields.specs.Runs.{front}
 use Rattle.reception.specs.declared.Report.{Report}
-use Rattle.reception.specs.declared.Reported.{Reported}
-use Rattle.reception.specs.declared.Reported.TheVariants.{Done, Refused}
+use Rattle.reception.specs.Answers.{Reported}
 use Rattle.reception.specs.Sendings.{Held}
 use Rattle.reception.specs.Walk.{is_heard}
 use Rattle.reception.specs.Neighbours.{end_to, octets_to}
 use Rattle.reception.specs.Hearing.{Kept, held_by, unmatched, damaged_kept}
+use Rattle.units.specs.declared.refusals.Refusal.TheVariants.{CapacitiesDiffer, NoRoom, RecordDamaged}
 
 -- the packets heard below n
 unfoldable pub heard_to : Held → ℕ → ℕ
@@ -75,10 +75,10 @@ report_of r =
 -- "Report: 14, 13, 12", where room gaps can be written
 unfoldable pub report_record : Kept → ℕ → Reported
 report_record k room =
-    Refused (refusing capacities_differ) when unmatched k otherwise
-    Refused (refusing record_damaged) when damaged_kept k otherwise
-    Refused (refusing no_room) when ltb room (length (gaps_of (held_by k))) otherwise
-    Done (report_of (held_by k))
+    Err CapacitiesDiffer when unmatched k otherwise
+    Err RecordDamaged when damaged_kept k otherwise
+    Err NoRoom when ltb room (length (gaps_of (held_by k))) otherwise
+    Ok (report_of (held_by k))
 
 -- document 01's number and values: "a refusal returns its number and zeros elsewhere", in the places of the checks too
 pub record ReportPaper : Type 0 where
@@ -96,7 +96,7 @@ pub record ReportPaper : Type 0 where
 
 -- of a report, or why there is none
 unfoldable pub reported_paper : Reported → ReportPaper
-reported_paper (Done r) =
+reported_paper (Ok r) =
     record {
       number = 0;
       found = 0;
@@ -110,11 +110,11 @@ reported_paper (Done r) =
       missing_octets = r.missing_octets.0;
       gaps = r.gaps;
     }
-reported_paper (Refused r) =
+reported_paper (Err r) =
     record {
-      number = r.number;
-      found = r.found;
-      worked = r.worked_out;
+      number = number_of r;
+      found = found_of r;
+      worked = worked_of r;
       accepted = 0;
       sent = 0;
       sent_octets = 0;
@@ -127,8 +127,8 @@ reported_paper (Refused r) =
 
 -- one of a gap's three numbers in a lent list: those of the gaps in front, and nothing beyond differs; refused, what it held
 unfoldable pub gaps_after : Reported → (Gap → ℕ) → List Gap → List ℕ → List ℕ
-gaps_after (Done r) number gaps old = front old (map number gaps)
-gaps_after (Refused r) number gaps old = old
+gaps_after (Ok r) number gaps old = front old (map number gaps)
+gaps_after (Err r) number gaps old = old
 
 -- how many gaps three lent lists have room for
 abbrev pub room_of : List ℕ → List ℕ → List ℕ → ℕ

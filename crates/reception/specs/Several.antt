@@ -1,13 +1,12 @@
 -- Several frames heard one after another, and frames that stand in one row of octets. Assumes nothing.
-use Rattle.std.specs.Prelude.{ℕ, ◌-◌, List, [], ◌∷◌, map, ltb, length, take, drop}
+use Rattle.std.specs.Prelude.{ℕ, ◌-◌, List, [], ◌∷◌, map, ltb, length, take, drop, Ok, Err}
 use Rattle.units.specs.OneNumber.{refusal_in_one}
 use Rattle.units.specs.Limits.{last_stamp}
-use Rattle.units.specs.Refusals.{stamp_too_high, no_room, capacities_differ}
 use Rattle.fields.specs.Choice.{◌when◌otherwise◌}
 use Rattle.fields.specs.Runs.{front}
-use Rattle.reception.specs.declared.Taken.{Taken}
-use Rattle.reception.specs.declared.Taken.TheVariants.{Done, Refused}
+use Rattle.reception.specs.Answers.{Taken}
 use Rattle.reception.specs.Hearing.{Kept, Outcome, refuses, takes, unmatched, empty_kept, hear_frame, taken_paper}
+use Rattle.units.specs.declared.refusals.Refusal.TheVariants.{CapacitiesDiffer, NoRoom, StampTooHigh}
 
 -- the record after some frames, in the order in which they came
 unfoldable pub hear_all : Kept → ℕ → ℕ → List (List ℕ) → Kept
@@ -31,9 +30,9 @@ frames_in octets from (e ∷ ends) = take (e - from) (drop from octets) ∷ fram
 -- a fresh record that hears them, with room for so many answers: "Fresh record: 14, 5", then 12
 unfoldable pub hear_sequence : ℕ → ℕ → ℕ → Kept → List (List ℕ) → ℕ → Outcome
 hear_sequence bearer period stamp old frames room =
-    refuses old capacities_differ when unmatched old otherwise
-    refuses old stamp_too_high when ltb last_stamp stamp otherwise
-    refuses old no_room when ltb room (length frames) otherwise
+    refuses old CapacitiesDiffer when unmatched old otherwise
+    refuses old StampTooHigh when ltb last_stamp stamp otherwise
+    refuses old NoRoom when ltb room (length frames) otherwise
     takes (hear_all (empty_kept bearer period stamp (length old.marks)) bearer period frames)
 
 -- an answer in one number: 0, or the refusal's with both checks of 4 and 7
@@ -42,5 +41,5 @@ answer_of t = refusal_in_one (taken_paper t).number (taken_paper t).found (taken
 
 -- the list of answers after: one for each frame in front; or, refused, what it held
 abbrev pub answers_after : Taken → List Taken → List ℕ → List ℕ
-answers_after Done ts old = front old (map answer_of ts)
-answers_after (Refused r) ts old = old
+answers_after (Ok u) ts old = front old (map answer_of ts)
+answers_after (Err r) ts old = old

@@ -2,11 +2,13 @@
 // specs/ and their theory in proofs/; functions on records stand in the crates above.
 #![tactic(auto)]
 
+pub mod record;
+
 use units::{Octets, Packets, Refusal};
 
 // The key and the closing of a record. What was heard of each packet number stands in three lent lists beside it: marks (1 heard,
 // 0 not), elapsed octets and payload lengths.
-#[derive(Clone, Copy)]
+#[derive(Clone, Copy, Debug, PartialEq, Eq)]
 pub struct Head {
     pub bearer: u32,
     pub period: u32,
@@ -16,37 +18,22 @@ pub struct Head {
     pub total: Octets,
 }
 
-// The answer of a call that takes something into a record.
-#[derive(Clone, Copy)]
-pub enum Taken {
-    Done,
-    Refused(Refusal),
-}
-
-// An answer, and the head of the record after it.
-#[derive(Clone, Copy)]
-pub struct Taking {
-    pub answer: Taken,
+// What a call answers, and the head of the record after it. Not every answer has one kind of refusal: `E` says which.
+#[derive(Clone, Copy, Debug, PartialEq, Eq)]
+pub struct Answered<E> {
+    pub answer: Result<(), E>,
     pub head: Head,
 }
 
-// The answer of a join: taken; the lowest packet number of the right record that contradicts, or 65,536 for its closing; or why refused.
-#[derive(Clone, Copy)]
-pub enum Joined {
-    Done,
-    Contradicted(u32),
+// Why records were not joined: the lowest packet number of the right record that contradicts, or 65,536 for its closing; or a refusal.
+#[derive(Clone, Copy, Debug, PartialEq, Eq)]
+pub enum NotJoined {
+    Contradicts(u32),
     Refused(Refusal),
-}
-
-// An answer, and the head of the left record after it.
-#[derive(Clone, Copy)]
-pub struct Joining {
-    pub answer: Joined,
-    pub head: Head,
 }
 
 // What was sent, heard and missing, in packets and in octets, and in how many gaps.
-#[derive(Clone, Copy)]
+#[derive(Clone, Copy, Debug, PartialEq, Eq)]
 pub struct Report {
     pub sent: Packets,
     pub sent_octets: Octets,
@@ -55,11 +42,4 @@ pub struct Report {
     pub missing: Packets,
     pub missing_octets: Octets,
     pub gaps: u32,
-}
-
-// A report, or why there is none.
-#[derive(Clone, Copy)]
-pub enum Reported {
-    Done(Report),
-    Refused(Refusal),
 }

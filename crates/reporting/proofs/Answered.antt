@@ -4,26 +4,26 @@ use mathlib.Core.Path.{◌≡◌, refl}
 use mathlib.Core.List.{List, map}
 use native.Mathlib.Omega.{arith}
 use lib.ListN.{length}
-use Rattle.units.specs.Refusals.{refusing}
 use Rattle.fields.specs.Runs.{front}
-use Rattle.reception.specs.declared.Reported.{Reported}
-use Rattle.reception.specs.declared.Reported.TheVariants.{Done, Refused}
+use Rattle.reception.specs.Answers.{Reported}
 use Rattle.reception.specs.Sendings.{Held}
 use Rattle.reception.specs.Hearing.{Kept, held_by}
 use Rattle.reception.specs.Reporting.{Gap, gaps_of, report_of, report_record, gaps_after, room_of, Reports}
 use Rattle.reporting.specs.Writing.{Room}
+use Rattle.std.specs.Prelude.{Ok, Err}
+use Rattle.units.specs.declared.refusals.Refusal.{Refusal}
 
 module _ (k : Kept) (firsts counts octets : List ℕ) where
   -- a refusal leaves the lists as they were
-  pub refused_as : (n : ℕ) {r : Reported} → report_record k (room_of firsts counts octets) ≡ Refused (refusing n) → r ≡ Refused (refusing n)
+  pub refused_as : (n : Refusal) {r : Reported} → report_record k (room_of firsts counts octets) ≡ Err n → r ≡ Err n
       → Reports k firsts counts octets r firsts counts octets
   unfolding gaps_after
   refused_as n e q =
       record { says = rw (e, q) refl; leaves_firsts = rw e refl; leaves_counts = rw e refl; leaves_octets = rw e refl }
 
   -- a report leaves the gaps in front
-  pub done_as : {r : Reported} {firsts' counts' octets' : List ℕ} → report_record k (room_of firsts counts octets) ≡ Done (report_of (held_by k))
-      → r ≡ Done (report_of (held_by k)) → firsts' ≡ front firsts (map (λ (g : Gap). g.first) (gaps_of (held_by k)))
+  pub done_as : {r : Reported} {firsts' counts' octets' : List ℕ} → report_record k (room_of firsts counts octets) ≡ Ok (report_of (held_by k))
+      → r ≡ Ok (report_of (held_by k)) → firsts' ≡ front firsts (map (λ (g : Gap). g.first) (gaps_of (held_by k)))
       → counts' ≡ front counts (map (λ (g : Gap). g.count) (gaps_of (held_by k))) → octets' ≡ front octets (map (λ (g : Gap). g.octets) (gaps_of (held_by k)))
       → Reports k firsts counts octets r firsts' counts' octets'
   unfolding gaps_after

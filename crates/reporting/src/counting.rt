@@ -1,14 +1,13 @@
 // What a report says of a record: one pass over the places in which packets were heard.
 ghost use Rattle.std.specs.Prelude.{◌≡◌, false, cond, length};
-ghost use Rattle.reception.specs.Sendings.{held_in};
-ghost use Rattle.reception.specs.Damage.{Matched};
+ghost use Rattle.reception.specs.Lent.{held, kept};
 ghost use Rattle.reception.specs.Neighbours.{NoneFrom};
-ghost use Rattle.reception.specs.Hearing.{kept_in, damaged_kept};
+ghost use Rattle.reception.specs.Hearing.{damaged_kept};
 ghost use Rattle.reception.specs.Reporting.{report_of};
 ghost use Rattle.reporting.specs.Counting.{Tallied};
 
 use damage::judging::gap_between;
-use fields::widths::{from_u16, from_u32};
+use reception::record::Record;
 use reception::{Head, Report};
 use units::{Octets, Packets};
 
@@ -23,10 +22,9 @@ pub struct Totals {
 }
 
 // Counts over all places; from the place last on nothing was heard.
-fn tally(last: usize, marks: &[u8], elapsed: &[u32], sizes: &[u16]) -> Totals
-    requires cases { Matched marks.now elapsed.now sizes.now }
-    requires none_from { NoneFrom marks.now last }
-    ensures { Tallied marks.now elapsed.now sizes.now (length marks.now)
+fn tally(r: &Record, last: usize) -> Totals
+    requires { NoneFrom r.now.marks.now last }
+    ensures { Tallied r.now.marks.now r.now.elapsed.now r.now.sizes.now (length r.now.marks.now)
         result.heard.0 result.octets.0 result.end.0 result.before.0 result.gaps }
 {
     let mut heard: u32 = 0;
@@ -34,18 +32,16 @@ fn tally(last: usize, marks: &[u8], elapsed: &[u32], sizes: &[u16]) -> Totals
     let mut end: u32 = 0;
     let mut before: u64 = 0;
     let mut gaps: u32 = 0;
-    let mut k: usize = 0;
-    while k < last {
-        if marks[k] == 1 {
-            let e = from_u32(elapsed[k]);
-            let l = from_u16(sizes[k]);
-            gaps = gaps + gap_between(end, k as u32);
+    for k in 0..last {
+        if r.marks[k] == 1 {
+            let e = u64::from(r.elapsed[k]);
+            let l = u64::from(r.sizes[k]);
+            gaps += gap_between(end, k as u32);
             heard += 1;
-            octets = octets + l;
+            octets += l;
             end = k as u32 + 1;
             before = e + l;
         }
-        k += 1;
     }
     Totals {
         heard: Packets(heard),
@@ -60,36 +56,29 @@ fn tally(last: usize, marks: &[u8], elapsed: &[u32], sizes: &[u16]) -> Totals
 pub fn sent_packets(h: Head, end: Packets) -> Packets
     ensures { result ≡ record { 0 = cond h.closed h.count.0 end.0 } }
 {
-    if h.closed {
-        return h.count;
-    }
-    end
+    if h.closed { h.count } else { end }
 }
 
 // And their octets.
 pub fn sent_octets(h: Head, before: Octets) -> Octets
     ensures { result ≡ record { 0 = cond h.closed h.total.0 before.0 } }
 {
-    if h.closed {
-        return h.total;
-    }
-    before
+    if h.closed { h.total } else { before }
 }
 
 // The report on an undamaged record in which nothing was heard from the place last on.
-pub fn count(h: Head, last: usize, marks: &[u8], elapsed: &[u32], sizes: &[u16]) -> Report
-    requires cases { Matched marks.now elapsed.now sizes.now }
-    requires none_from { NoneFrom marks.now last }
-    requires sizes_value { damaged_kept (kept_in h marks.now elapsed.now sizes.now) ≡ false }
-    ensures { result ≡ report_of (held_in h marks.now elapsed.now sizes.now) }
+pub fn count(r: &Record, last: usize) -> Report
+    requires none_from { NoneFrom r.now.marks.now last }
+    requires undamaged { damaged_kept (kept r.now) ≡ false }
+    ensures { result ≡ report_of (held r.now) }
 {
-    let t = tally(last, marks, elapsed, sizes);
+    let t = tally(r, last);
     let heard = t.heard;
     let octets = t.octets;
     let end = t.end;
     let before = t.before;
-    let sent = sent_packets(h, end);
-    let total = sent_octets(h, before);
+    let sent = sent_packets(r.head, end);
+    let total = sent_octets(r.head, before);
     Report {
         sent: sent,
         sent_octets: total,

@@ -4,9 +4,7 @@
 pub mod counting;
 pub mod writing;
 
-ghost use Rattle.std.specs.Prelude.{◌≡◌, ◌≤◌, min};
-ghost use Rattle.units.specs.Refusals.{refusing};
-ghost use Rattle.reception.specs.declared.Reported.TheVariants.{Refused};
+ghost use Rattle.std.specs.Prelude.{◌≡◌, ◌≤◌};
 ghost use Rattle.reception.specs.Hearing.{kept_in};
 ghost use Rattle.reception.specs.Reporting.{Reports};
 ghost use Rattle.reporting.specs.Writing.{report_with};
@@ -14,31 +12,10 @@ ghost use Rattle.reporting.specs.Writing.{report_with};
 use counting::{sent_octets, sent_packets};
 use damage::judging::{gap_between, judge};
 use damage::lists_differ;
-use reception::{Head, Report, Reported};
-use units::refusals::{CAPACITIES_DIFFER, NO_ROOM, RECORD_DAMAGED};
+use reception::record::Record;
+use reception::{Head, Report};
 use units::{Octets, Packets, Refusal};
 use writing::{Filled, write_gaps};
-
-// A refusal.
-fn refused(number: u8) -> Reported
-    ensures { result ≡ Refused (refusing number) }
-{
-    Reported::Refused(Refusal {
-        number: number,
-        found: 0,
-        worked_out: 0,
-    })
-}
-
-// The lower of two lengths.
-fn least(a: usize, b: usize) -> usize
-    ensures { result ≡ min a b }
-{
-    if a < b {
-        return a;
-    }
-    b
-}
 
 // The report by what was sent and what of it is missing.
 fn made(sent: Packets, total: Octets, missing: Filled, gaps: u32) -> Report
@@ -67,28 +44,33 @@ pub fn report(
     firsts: &mut [u32],
     counts: &mut [u32],
     octets: &mut [u64],
-) -> Reported
+) -> Result<Report, Refusal>
     ensures { Reports
         (kept_in h marks.now elapsed.now sizes.now)
         firsts.old counts.old octets.old
         result firsts.new counts.new octets.new }
 {
     if lists_differ(marks.len(), elapsed.len(), sizes.len()) {
-        return refused(CAPACITIES_DIFFER);
+        return Err(Refusal::CapacitiesDiffer);
     }
-    let j = judge(h, marks, elapsed, sizes);
-    if j.damaged {
-        return refused(RECORD_DAMAGED);
-    }
+    let r = Record {
+        head: h,
+        marks,
+        elapsed,
+        sizes,
+    };
+    let Some(j) = judge(&r) else {
+        return Err(Refusal::RecordDamaged);
+    };
     let end = j.end;
     let before = j.before;
     let sent = sent_packets(h, end);
     let total = sent_octets(h, before);
     let gaps = j.gaps + gap_between(end.0, sent.0);
-    if least(firsts.len(), least(counts.len(), octets.len())) < gaps as usize {
-        return refused(NO_ROOM);
+    if firsts.len().min(counts.len().min(octets.len())) < gaps as usize {
+        return Err(Refusal::NoRoom);
     }
     let n = sent.0 as usize;
-    let missing = write_gaps(h, n, marks, elapsed, sizes, firsts, counts, octets);
-    Reported::Done(made(sent, total, missing, gaps))
+    let missing = write_gaps(&r, n, firsts, counts, octets);
+    Ok(made(sent, total, missing, gaps))
 }

@@ -1,16 +1,14 @@
 // The gaps of a record into three lent lists: first number, count and octets of each.
 ghost use Rattle.std.specs.Prelude.{◌≡◌, false, map, ◌≤◌};
 ghost use Rattle.fields.specs.Runs.{front};
-ghost use Rattle.reception.specs.Sendings.{held_in};
-ghost use Rattle.reception.specs.Damage.{Matched};
-ghost use Rattle.reception.specs.Hearing.{kept_in, damaged_kept};
+ghost use Rattle.reception.specs.Lent.{held, kept};
+ghost use Rattle.reception.specs.Hearing.{damaged_kept};
 ghost use Rattle.reception.specs.Reporting.{Gap, gap_to, gaps_of, sent_packets};
 ghost use Rattle.reception.specs.Missing.{packets_in, octets_in};
 ghost use Rattle.reporting.specs.Writing.{Room, Puts};
 
 use crate::counting::sent_octets;
-use fields::widths::{from_u16, from_u32};
-use reception::Head;
+use reception::record::Record;
 use units::{Octets, Packets};
 
 // How far the lists are filled: the place for the next gap, and the packets and octets in those before it.
@@ -55,27 +53,23 @@ fn put(
 
 // Writes all gaps of an undamaged record of which n packets were sent, in rising order.
 pub fn write_gaps(
-    h: Head,
+    r: &Record,
     n: usize,
-    marks: &[u8],
-    elapsed: &[u32],
-    sizes: &[u16],
     firsts: &mut [u32],
     counts: &mut [u32],
     octets: &mut [u64],
 ) -> Filled
-    requires cases { Matched marks.now elapsed.now sizes.now }
-    requires sizes_value { damaged_kept (kept_in h marks.now elapsed.now sizes.now) ≡ false }
-    requires n_value { n ≡ sent_packets (held_in h marks.now elapsed.now sizes.now) }
-    requires room { Room 0 (gaps_of (held_in h marks.now elapsed.now sizes.now)) firsts.old counts.old octets.old }
-    ensures packets_value { (result.packets.0 ≡ packets_in (gaps_of (held_in h marks.now elapsed.now sizes.now)))
-        × (result.octets.0 ≡ octets_in (gaps_of (held_in h marks.now elapsed.now sizes.now))) }
+    requires undamaged { damaged_kept (kept r.now) ≡ false }
+    requires n_value { n ≡ sent_packets (held r.now) }
+    requires room { Room 0 (gaps_of (held r.now)) firsts.old counts.old octets.old }
+    ensures packets_value { (result.packets.0 ≡ packets_in (gaps_of (held r.now)))
+        × (result.octets.0 ≡ octets_in (gaps_of (held r.now))) }
     ensures firsts_after { (firsts.new ≡ front firsts.old
-        (map (λ (g : Gap). g.first) (gaps_of (held_in h marks.now elapsed.now sizes.now))))
+        (map (λ (g : Gap). g.first) (gaps_of (held r.now))))
         × (counts.new ≡ front counts.old
-        (map (λ (g : Gap). g.count) (gaps_of (held_in h marks.now elapsed.now sizes.now))))
+        (map (λ (g : Gap). g.count) (gaps_of (held r.now))))
         × (octets.new ≡ front octets.old
-        (map (λ (g : Gap). g.octets) (gaps_of (held_in h marks.now elapsed.now sizes.now)))) }
+        (map (λ (g : Gap). g.octets) (gaps_of (held r.now)))) }
 {
     let mut i: u32 = 0;
     let mut a: u64 = 0;
@@ -84,17 +78,15 @@ pub fn write_gaps(
         packets: Packets(0),
         octets: Octets(0),
     };
-    let mut k: usize = 0;
-    while k < n {
-        if marks[k] == 1 {
-            let e = from_u32(elapsed[k]);
-            let l = from_u16(sizes[k]);
+    for k in 0..n {
+        if r.marks[k] == 1 {
+            let e = u64::from(r.elapsed[k]);
+            let l = u64::from(r.sizes[k]);
             t = put(t, i, a, k as u32, e, firsts, counts, octets);
             i = k as u32 + 1;
             a = e + l;
         }
-        k += 1;
     }
-    let total = sent_octets(h, Octets(a));
+    let total = sent_octets(r.head, Octets(a));
     put(t, i, a, n as u32, total.0, firsts, counts, octets)
 }

@@ -2,26 +2,12 @@
 use Prim.Native.Nat.{ℕ}
 use mathlib.Core.Path.{◌≡◌, sym, ap, ◌∙◌}
 use mathlib.Core.List.{List}
-use Rattle.frame.specs.declared.Written.{Written}
+use Rattle.frame.specs.Answers.{Written}
 use Rattle.frame.specs.Paper.{written_paper}
 use Rattle.frame.specs.Writing.{after}
 use Rattle.sender.specs.declared.Sender.{Sender}
-use Rattle.sender.specs.declared.Dispatch.{Dispatch}
-use Rattle.sender.specs.declared.Turning.{Turning}
-use Rattle.sender.specs.Calls.{turned_paper, keeps, Turns, Sends}
-
-pub turns : {t r : Turning} → r ≡ t → Turns t r
-turns e = record { says = ap (λ (x : Turning). turned_paper x.answer) e; next = ap (λ (x : Turning). x.sender) e }
-
--- a refused frame: the state and the memory are as they were
-pub kept : {s : Sender} {n : ℕ} {frame old : List ℕ} {t r : Dispatch} → r ≡ keeps s n → t ≡ keeps s n → Sends t frame old r old
-unfolding after
-kept {s} {n} {frame} {old} e f =
-    record {
-      says = ap (λ (x : Dispatch). written_paper x.answer) (e ∙ sym f);
-      next = ap (λ (x : Dispatch). x.sender) (e ∙ sym f);
-      leaves = ap (λ (x : Dispatch). after x.answer frame old) (sym f);
-    }
+use Rattle.sender.specs.Answers.{Dispatch}
+use Rattle.sender.specs.Calls.{Sends}
 
 -- a frame that was written, or not, as the writer says: its answer and the memory, and the next state
 pub written : {t r : Dispatch} {w : Written} {n : Sender} {frame old new : List ℕ} → t ≡ record { answer = w; sender = n }

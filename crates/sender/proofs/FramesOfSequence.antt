@@ -16,7 +16,7 @@ use Rattle.frame.specs.Writing.{data_frame}
 use Rattle.sender.specs.declared.Phase.{Phase}
 use Rattle.sender.specs.declared.Phase.TheVariants.{Fresh, Open, Closed}
 use Rattle.sender.specs.declared.Sender.{Sender}
-use Rattle.sender.specs.declared.Dispatch.{Dispatch}
+use Rattle.sender.specs.Answers.{Dispatch}
 use Rattle.sender.specs.State.{damaged, is_open, rest_wrong, closing_by}
 use Rattle.frame.specs.Counts.{some_of}
 use Rattle.sender.specs.Calls.{advanced, begins, data_call}

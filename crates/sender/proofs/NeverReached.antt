@@ -9,33 +9,34 @@ use borrow.Author.Tests.{le-ltb, ltb-false, leb-false}
 use Rattle.units.specs.Limits.{most_payload, most_in_sequence, most_period_packets}
 use Rattle.fields.specs.Choice.{◌when◌otherwise◌}
 use Rattle.fields.proofs.Choosing.{same_test}
-use Rattle.frame.specs.declared.Written.TheVariants.{Done}
 use Rattle.frame.specs.Sizes.{data_head}
 use Rattle.sender.specs.declared.Sender.{Sender}
-use Rattle.sender.specs.declared.Dispatch.{Dispatch}
+use Rattle.sender.specs.Answers.{Dispatch}
 use Rattle.sender.specs.State.{damaged, is_open}
-use Rattle.sender.specs.Calls.{keeps, advanced, data_call}
+use Rattle.sender.specs.Calls.{advanced, data_call, refused_call}
 use Rattle.sender.proofs.Undamaged.{undamaged, few_octets}
+use Rattle.std.specs.Prelude.{Ok}
+use Rattle.units.specs.declared.refusals.Refusal.TheVariants.{NoRoom, OutOfTurn, PayloadTooLong, PeriodFull, SenderDamaged, SequenceFull}
 
 -- by the payload limit and the packet limit, the period's octets with one packet more still fit five octets
 pub octets_fit : (s : Sender) (l : ℕ) → damaged s ≡ false → l ≤ most_payload → s.packets.0 < most_period_packets → s.octets.0 + l < 2 ^ 40
 octets_fit s l w short packets = omega (arith, few_octets s (undamaged s w), short, packets)
 
--- document 01's order: "Data: 21, 15, 20, 17, 18, 19, 12"
-unfoldable pub data_call_with19 : Sender → ℕ → ℕ → Dispatch
-data_call_with19 s l room =
-    keeps s 21 when damaged s otherwise
-    keeps s 15 when not (is_open s.phase) otherwise
-    keeps s 20 when ltb most_payload l otherwise
-    keeps s 17 when leb most_in_sequence s.number.0 otherwise
-    keeps s 18 when leb most_period_packets s.packets.0 otherwise
-    keeps s 19 when ltb (2 ^ 40 - 1) (s.octets.0 + l) otherwise
-    keeps s 12 when ltb room (data_head + l) otherwise
-    record { answer = Done (data_head + l); sender = advanced s l }
+-- document 01's order: "Data: 21, 15, 20, 17, 18, 19, 12", where `nineteen` is what 19 would answer and leave, whatever that is
+unfoldable pub data_call_with19 : Dispatch → Sender → ℕ → ℕ → Dispatch
+data_call_with19 nineteen s l room =
+    refused_call s SenderDamaged when damaged s otherwise
+    refused_call s OutOfTurn when not (is_open s.phase) otherwise
+    refused_call s PayloadTooLong when ltb most_payload l otherwise
+    refused_call s SequenceFull when leb most_in_sequence s.number.0 otherwise
+    refused_call s PeriodFull when leb most_period_packets s.packets.0 otherwise
+    nineteen when ltb (2 ^ 40 - 1) (s.octets.0 + l) otherwise
+    refused_call s NoRoom when ltb room (data_head + l) otherwise
+    record { answer = Ok (data_head + l); sender = advanced s l }
 
-pub never_reached : (s : Sender) (l room : ℕ) → data_call_with19 s l room ≡ data_call s l room
+pub never_reached : (nineteen : Dispatch) (s : Sender) (l room : ℕ) → data_call_with19 nineteen s l room ≡ data_call s l room
 unfolding data_call data_call_with19
-never_reached s l room =
+never_reached nineteen s l room =
     same_test _ _ _ (damaged s)
     (λ w.
     same_test _ _ _ (not (is_open s.phase))

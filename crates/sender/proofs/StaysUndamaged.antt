@@ -11,8 +11,7 @@ use Rattle.frame.specs.declared.ClosingPdu.{ClosingPdu}
 use Rattle.frame.specs.Counts.{some_of, closing_wrong}
 use Rattle.frame.proofs.Said.{Possible}
 use Rattle.sender.specs.declared.Sender.{Sender}
-use Rattle.sender.specs.declared.Dispatch.{Dispatch}
-use Rattle.sender.specs.declared.Turning.{Turning}
+use Rattle.sender.specs.Answers.{Dispatch, Turning}
 use Rattle.sender.specs.State.{damaged, rest_wrong, fresh_sender, closing_by}
 use Rattle.sender.specs.Calls.{begins, advanced, closed_sender, open_call, renew_call, data_call, close_call, close_with_call}
 use Rattle.sender.proofs.RefusedOrAccepted.{open_comes, renew_comes, data_comes, close_comes, close_with_comes}

@@ -7,7 +7,6 @@ use mathlib.Core.List.{List, [], ◌∷◌}
 use native.Mathlib.Omega.{arith}
 use lib.ListN.{length, length-set, length-replicate}
 use Rattle.units.specs.Limits.{most_payload, most_capacity}
-use Rattle.units.specs.Refusals.{refusing, contradiction}
 use Rattle.frame.specs.declared.DataPdu.{DataPdu}
 use Rattle.frame.specs.declared.Read.TheVariants.{Data}
 use Rattle.frame.specs.Counts.{data_wrong}
@@ -17,8 +16,7 @@ use Rattle.frame.specs.Reading.{read_frame}
 use Rattle.frame.specs.Writing.{data_frame}
 use Rattle.frame.proofs.BenchExamples.{B, B_read, first}
 use Rattle.frame.proofs.ReadBack.{data_back}
-use Rattle.reception.specs.declared.Taken.{Taken}
-use Rattle.reception.specs.declared.Taken.TheVariants.{Done, Refused}
+use Rattle.reception.specs.Answers.{Taken}
 use Rattle.reception.specs.Sendings.{Held}
 use Rattle.reception.specs.Adding.{with_packet, packet_contradicts}
 use Rattle.reception.specs.Hearing.{Kept, Outcome, held_by, takes, open_head, empty_kept, keep_packet, hear_frame}
@@ -28,6 +26,8 @@ use Rattle.reception.proofs.HearingUndamaged.{stays_sound, empty_sound}
 use Rattle.reception.proofs.KeptAsHeld.{held_packet, held_empty, empty_matched}
 use Rattle.reception.proofs.WhatHearingAdds.{Sound, key_owned, data_taken}
 use Rattle.reception.specs.Several.{answers_to}
+use Rattle.std.specs.Prelude.{Ok, Err}
+use Rattle.units.specs.declared.refusals.Refusal.TheVariants.{Contradiction}
 
 -- a data PDU of stamp 0
 abbrev pdu_of : ℕ → ℕ → List ℕ → DataPdu
@@ -68,7 +68,7 @@ module _ (bearer period c : ℕ) (most : c ≤ most_capacity) (least : 3 ≤ c) 
   abbrev afterwards : List ℕ → List Taken
   afterwards f = answers_to empty bearer period (B ∷ f ∷ [])
 
-  two_answers : (f : List ℕ) → afterwards f ≡ Done ∷ (hear_frame heard_b bearer period f).answer ∷ []
+  two_answers : (f : List ℕ) → afterwards f ≡ Ok tt ∷ (hear_frame heard_b bearer period f).answer ∷ []
   unfolding answers_to
   two_answers f = ap (λ (o : Outcome). o.answer ∷ (hear_frame o.kept bearer period f).answer ∷ []) B_heard
 
@@ -81,10 +81,10 @@ module _ (bearer period c : ℕ) (most : c ≤ most_capacity) (least : 3 ≤ c) 
       there : n < length heard_b.marks
       there = rw (length-set empty.marks 0 1, places) below
 
-      accepted : packet_contradicts (after_b c) n e (payload_kept p) ≡ false → afterwards (data_frame 0 n e p) ≡ Done ∷ Done ∷ []
+      accepted : packet_contradicts (after_b c) n e (payload_kept p) ≡ false → afterwards (data_frame 0 n e p) ≡ Ok tt ∷ Ok tt ∷ []
       accepted h =
           two_answers (data_frame 0 n e p)
-          ∙ ap (λ (o : Outcome). Done ∷ o.answer ∷ [])
+          ∙ ap (λ (o : Outcome). Ok tt ∷ o.answer ∷ [])
           (data_taken heard_b bearer period (data_frame 0 n e p) (pdu_of n e p) said sound_then
           (record {
             own = key_owned (open_head bearer period 0);
@@ -93,29 +93,29 @@ module _ (bearer period c : ℕ) (most : c ≤ most_capacity) (least : 3 ≤ c) 
           }))
 
       refused : packet_contradicts (after_b c) n e (payload_kept p) ≡ true
-          → afterwards (data_frame 0 n e p) ≡ Done ∷ Refused (refusing contradiction) ∷ []
+          → afterwards (data_frame 0 n e p) ≡ Ok tt ∷ Err Contradiction ∷ []
       refused h =
           two_answers (data_frame 0 n e p)
-          ∙ ap (λ (o : Outcome). Done ∷ o.answer ∷ [])
+          ∙ ap (λ (o : Outcome). Ok tt ∷ o.answer ∷ [])
           (contradicting_packet heard_b bearer period (data_frame 0 n e p) (pdu_of n e p) said sound_then (key_owned (open_head bearer period 0)) there
           (subst (λ (r : Held). packet_contradicts r n e (payload_kept p) ≡ true) (sym held_then) h))
 
     -- G: number 1 at elapsed 2 is refused with 11
-    pub G_refused : answers_to (empty_kept bearer period 0 c) bearer period (B ∷ data_frame 0 1 2 p ∷ []) ≡ Done ∷ Refused (refusing 11) ∷ []
+    pub G_refused : answers_to (empty_kept bearer period 0 c) bearer period (B ∷ data_frame 0 1 2 p ∷ []) ≡ Ok tt ∷ Err Contradiction ∷ []
     unfolding data_wrong
     G_refused = refused 1 2 refl (omega arith) (G-contradicts c (payload_kept p) least most)
 
     -- number 2 at elapsed 1 is accepted
-    pub G_accepted : answers_to (empty_kept bearer period 0 c) bearer period (B ∷ data_frame 0 2 1 p ∷ []) ≡ Done ∷ Done ∷ []
+    pub G_accepted : answers_to (empty_kept bearer period 0 c) bearer period (B ∷ data_frame 0 2 1 p ∷ []) ≡ Ok tt ∷ Ok tt ∷ []
     unfolding data_wrong
     G_accepted = accepted 2 1 refl (omega arith) (G-agrees c (payload_kept p) least small)
 
     -- H: number 2 at elapsed 4,096 is accepted
-    pub H_accepted : answers_to (empty_kept bearer period 0 c) bearer period (B ∷ data_frame 0 2 4096 p ∷ []) ≡ Done ∷ Done ∷ []
+    pub H_accepted : answers_to (empty_kept bearer period 0 c) bearer period (B ∷ data_frame 0 2 4096 p ∷ []) ≡ Ok tt ∷ Ok tt ∷ []
     unfolding data_wrong
     H_accepted = accepted 2 4096 refl (omega arith) (H-agrees c (payload_kept p) least small)
 
     -- at elapsed 4,097 it is refused with 11
-    pub H_refused : answers_to (empty_kept bearer period 0 c) bearer period (B ∷ data_frame 0 2 4097 p ∷ []) ≡ Done ∷ Refused (refusing 11) ∷ []
+    pub H_refused : answers_to (empty_kept bearer period 0 c) bearer period (B ∷ data_frame 0 2 4097 p ∷ []) ≡ Ok tt ∷ Err Contradiction ∷ []
     unfolding data_wrong
     H_refused = refused 2 4097 refl (omega arith) (H-contradicts c (payload_kept p) least most)

@@ -9,7 +9,6 @@ use native.Mathlib.Omega.{arith}
 use lib.ListN.{length, get_or, length-set, length-map, replicate}
 use borrow.Author.Tests.{eq-eqb}
 use Rattle.units.specs.Limits.{most_payload}
-use Rattle.units.specs.Refusals.{contradiction, refusing}
 use Rattle.fields.specs.Numbers.{be, octets}
 use Rattle.checks.specs.Check.{divide, low_digits, bits_of, check}
 use Rattle.frame.specs.declared.DataPdu.{DataPdu}
@@ -25,7 +24,6 @@ use Rattle.sender.specs.State.{damaged, fresh_sender}
 use Rattle.sender.specs.Calls.{open_call, data_call}
 use Rattle.sender.specs.Sequence.{frames_by}
 use Rattle.reception.specs.declared.Head.{Head}
-use Rattle.reception.specs.declared.Taken.TheVariants.{Done, Refused}
 use Rattle.reception.specs.Sendings.{Held, Sent, Explains}
 use Rattle.reception.specs.Adding.{with_packet, packet_contradicts}
 use Rattle.reception.specs.Hearing.{Kept, held_by, refuses, other_key, hear_frame, empty_kept, lists_differ, hear_packet, hear_read}
@@ -39,6 +37,8 @@ use Rattle.reception.proofs.WhatHearingAdds.{data_accepted, packet_heard}
 use Rattle.sequence.specs.Pieces.{frame_of, lengths_of}
 use Rattle.sequence.specs.Pieces.Piece.{DataOf}
 use Rattle.sequence.proofs.PiecesRead.{Carried, length_at_lem, short_at, data_frame_is, data_possible}
+use Rattle.std.specs.Prelude.{Ok, Err}
+use Rattle.units.specs.declared.refusals.Refusal.TheVariants.{Contradiction}
 
 -- a packet that is held is one of every sending that explains the record
 held_sent : (r : Held) (n e l : ℕ) (s : List ℕ) → n < r.capacity → Explains (with_packet r n e l) s → Sent s n e l
@@ -50,13 +50,13 @@ next_counts s n e l m f o q a b =
     let t : before s m ≡ before s (suc n) = ap (before s) q in
     omega (arith, t, before_next s n, a.before_is, a.length_is, b.before_is)
 
-module _ (k : Kept) (bearer period : ℕ) (f g : List ℕ) (d c : DataPdu) (fd : read_frame f ≡ Data d) (gc : read_frame g ≡ Data c) (taken : (hear_frame k bearer period f).answer ≡ Done) where
+module _ (k : Kept) (bearer period : ℕ) (f g : List ℕ) (d c : DataPdu) (fd : read_frame f ≡ Data d) (gc : read_frame g ≡ Data c) (taken : (hear_frame k bearer period f).answer ≡ Ok tt) where
   abbrev after : Kept
   after = (hear_frame k bearer period f).kept
 
   -- in any record that took the first, the next is refused unless it counts its octets
   pub next_contradicts : c.stamp ≡ d.stamp → c.number.0 ≡ suc d.number.0 → c.number.0 < length k.marks
-      → (c.elapsed.0 ≡ d.elapsed.0 + d.length.0 → ⊥) → hear_frame after bearer period g ≡ refuses after contradiction
+      → (c.elapsed.0 ≡ d.elapsed.0 + d.length.0 → ⊥) → hear_frame after bearer period g ≡ refuses after Contradiction
   next_contradicts st nx room off =
       let p = data_accepted k bearer period f d fd taken in
       let h = packet_heard k bearer period f d fd taken in
@@ -82,9 +82,9 @@ module _ (stamp packets octets : ℕ) (ps : List (List ℕ)) (c : Carried stamp 
   -- once a record took one of which less is kept than was sent, it refuses the next with 11
   pub dropped_contradicts : (bearer period : ℕ) (k : Kept) (j : ℕ) → suc j < length ps → suc j < length k.marks
       → payload_kept (get_or ps j []) < length (get_or ps j [])
-      → (hear_frame k bearer period (frame_of stamp packets octets ps (DataOf j))).answer ≡ Done
+      → (hear_frame k bearer period (frame_of stamp packets octets ps (DataOf j))).answer ≡ Ok tt
       → hear_frame (hear_frame k bearer period (frame_of stamp packets octets ps (DataOf j))).kept bearer period (frame_of stamp packets octets ps (DataOf (suc j)))
-      ≡ refuses (hear_frame k bearer period (frame_of stamp packets octets ps (DataOf j))).kept contradiction
+      ≡ refuses (hear_frame k bearer period (frame_of stamp packets octets ps (DataOf j))).kept Contradiction
   dropped_contradicts bearer period k j there room less taken =
       let n = before_next (lengths_of ps) j in
       let l = length_at_lem ps j in
@@ -96,6 +96,6 @@ abbrev stray : List ℕ
 stray = 0x45 ∷ 0 ∷ 0 ∷ 20 ∷ replicate 16 0 ++ (0xAA ∷ [])
 
 -- two frames of our sender, the first with that payload, heard by an empty record of their key
-pub stray_octet : answers_to (empty_kept 7 3 0 2) 7 3 (frames_by (open_call fresh_sender 0).sender (stray ∷ (1 ∷ []) ∷ [])) ≡ Done ∷ Refused (refusing contradiction) ∷ []
+pub stray_octet : answers_to (empty_kept 7 3 0 2) 7 3 (frames_by (open_call fresh_sender 0).sender (stray ∷ (1 ∷ []) ∷ [])) ≡ Ok tt ∷ Err Contradiction ∷ []
 unfolding damaged open_call data_call frames_by some_of reach fits may_end walk is_explained packet_contradicts place_wrong places_wrong closing_off walk_fails damaged_record be octets divide low_digits bits_of check data_wrong closing_wrong payload_kept starts_v4 starts_v6 read_frame read_headed read_body data_frame lists_differ other_key hear_packet hear_read hear_frame answers_to
 stray_octet = refl

@@ -11,12 +11,10 @@ use borrow.Author.Tests.{le-ltb, eq-eqb}
 use Rattle.units.specs.Limits.{most_in_sequence, most_period_packets, most_capacity}
 use Rattle.fields.proofs.Tests.{or_no}
 use Rattle.frame.specs.declared.ClosingPdu.{ClosingPdu}
-use Rattle.frame.specs.declared.Written.TheVariants.{Done}
 use Rattle.frame.specs.Counts.{any_above, sum_of, list_wrong}
 use Rattle.frame.specs.Writing.{closing_frame, lengths_frame}
 use Rattle.sender.specs.declared.Sender.{Sender}
-use Rattle.sender.specs.declared.Turned.TheVariants.{Done as TurnDone}
-use Rattle.sender.specs.declared.Dispatch.{Dispatch}
+use Rattle.sender.specs.Answers.{Dispatch}
 use Rattle.sender.specs.State.{damaged, is_open, closing_by}
 use Rattle.sender.specs.Calls.{begins, open_call, close_call, close_with_call, data_call}
 use Rattle.sender.specs.Sequence.{count_of, octets_of, closing_after, carried, after_data, frames_by}
@@ -25,7 +23,6 @@ use Rattle.sender.proofs.FramesOfSequence.Short.{none, more}
 use Rattle.sender.proofs.RefusedOrAccepted.{OpenGoes, open_goes, close_accepted, close_with_goes}
 use Rattle.sender.proofs.StaysUndamaged.{open_undamaged, data_undamaged}
 use Rattle.sender.proofs.Undamaged.{undamaged, few_octets}
-use Rattle.reception.specs.declared.Taken.TheVariants.{Done as Accepted}
 use Rattle.reception.specs.Hearing.{empty_kept}
 use Rattle.reception.specs.Several.{hear_all, answers_to}
 use Rattle.sequence.specs.Pieces.{Piece, frame_of, PieceOf, PiecesOf, NoneDropped, lengths_of, SameFrames}
@@ -34,10 +31,11 @@ use Rattle.sequence.specs.Pieces.PieceOf.{with_lengths}
 use Rattle.sequence.proofs.PiecesRead.{Carried, count_is, octets_are}
 use Rattle.sequence.proofs.NeverRefused.{never_refused}
 use Rattle.sequence.proofs.OnlyWhichFrames.{only_which_frames}
+use Rattle.std.specs.Prelude.{Ok}
 
 -- a sender whose opening of a sequence was accepted, and payloads for which it has room
 pub record Opened (s : Sender) (stamp : ℕ) (ps : List (List ℕ)) : Type 0 where
-  pub accepted : (open_call s stamp).answer ≡ TurnDone
+  pub accepted : (open_call s stamp).answer ≡ Ok tt
   pub short : Short ps
   pub few : count_of ps ≤ most_in_sequence
   pub totals : s.packets.0 + count_of ps ≤ most_period_packets
@@ -115,12 +113,12 @@ module _ (s : Sender) (stamp : ℕ) (ps : List (List ℕ)) (o : Opened s stamp p
       ∙ ap (λ (x : Sender). is_open x.phase) (counts_are (begins s stamp).sender o.short ready)
 
   -- its closing call is accepted where there is room
-  pub closing_call_accepted : (room : ℕ) → 18 ≤ room → (close_call (after_data (open_call s stamp).sender ps) room).answer ≡ Done 18
+  pub closing_call_accepted : (room : ℕ) → 18 ≤ room → (close_call (after_data (open_call s stamp).sender ps) room).answer ≡ Ok 18
   closing_call_accepted room le =
       ap (λ (x : Dispatch). x.answer) (close_accepted last room (record { whole = last_whole; turn = last_open; fits = le }))
 
   -- and of Type 3 only with lengths that a piece of the sequence has
-  pub lengths_call_accepted : (ls : List ℕ) (room k : ℕ) → (close_with_call (after_data (open_call s stamp).sender ps) ls room).answer ≡ Done k
+  pub lengths_call_accepted : (ls : List ℕ) (room k : ℕ) → (close_with_call (after_data (open_call s stamp).sender ps) ls room).answer ≡ Ok k
       → PieceOf ps (ListedClosing ls)
   lengths_call_accepted ls room k e =
       let g = (close_with_goes last ls room k e).0 in
@@ -137,7 +135,7 @@ module _ (s : Sender) (stamp : ℕ) (ps : List (List ℕ)) (o : Opened s stamp p
     -- an empty record of its key that hears its frames, with room for all its packets, refuses none
     pub sender_never_refused : (bearer period capacity : ℕ) (xs : List Piece) → capacity ≤ most_capacity → count_of ps ≤ capacity → PiecesOf ps xs
         → answers_to (empty_kept bearer period stamp capacity) bearer period (map (frame_of stamp s.packets.0 s.octets.0 ps) xs)
-        ≡ replicate (length xs) Accepted
+        ≡ replicate (length xs) (Ok tt)
     sender_never_refused bearer period capacity xs fits room w =
         never_refused bearer period stamp s.packets.0 s.octets.0 ps opened_carried whole capacity xs fits room w
 

@@ -10,8 +10,7 @@ use lib.ListN.{length, get_or, replicate, length-set, length-map, length-replica
 use Rattle.units.specs.Limits.{most_capacity}
 use Rattle.frame.specs.Counts.{sum_of}
 use Rattle.sender.specs.Sequence.{count_of, octets_of, closing_after}
-use Rattle.reception.specs.declared.Taken.{Taken}
-use Rattle.reception.specs.declared.Taken.TheVariants.{Done}
+use Rattle.reception.specs.Answers.{Taken}
 use Rattle.reception.specs.Sendings.{Held, Explains, Whole}
 use Rattle.reception.specs.OneSequence.{Part}
 use Rattle.reception.specs.OneSequence.Part.{Packet, Closing}
@@ -28,6 +27,7 @@ use Rattle.sequence.specs.Pieces.Piece.{DataOf, PlainClosing, ListedClosing}
 use Rattle.sequence.specs.Pieces.PieceOf.{a_packet, a_closing, with_lengths}
 use Rattle.sequence.specs.Pieces.PiecesOf.{none, more}
 use Rattle.sequence.proofs.PiecesRead.{Carried, count_is, octets_are, carried_sending, data_of, data_read, closing_read, lengths_read}
+use Rattle.std.specs.Prelude.{Ok}
 
 -- the record with that part of the sending s kept
 abbrev pub keep_part : Kept → List ℕ → Part → Kept
@@ -125,11 +125,11 @@ module _ (bearer period stamp packets octets : ℕ) (ps : List (List ℕ)) (c : 
       }
 
   -- each answer is "accepted"
-  all_taken : (k : Kept) {xs : List Piece} → Hears k → PiecesOf ps xs → answers_to k bearer period (map octets_in xs) ≡ replicate (length xs) Done
+  all_taken : (k : Kept) {xs : List Piece} → Hears k → PiecesOf ps xs → answers_to k bearer period (map octets_in xs) ≡ replicate (length xs) (Ok tt)
   unfolding answers_to
   all_taken k h none = refl
   all_taken k h (more {x} {xs} q w) =
-      rw (piece_taken k x h q) (ap (λ (l : List Taken). Done ∷ l) (all_taken (keep_part k s (part_of x)) (hears_on k x h q) w))
+      rw (piece_taken k x h q) (ap (λ (l : List Taken). Ok tt ∷ l) (all_taken (keep_part k s (part_of x)) (hears_on k x h q) w))
 
   -- and the record after has kept the parts
   pub parts_kept : (k : Kept) {xs : List Piece} → Hears k → PiecesOf ps xs → hear_all k bearer period (map octets_in xs) ≡ keep_parts k s (map part_of xs)
@@ -141,5 +141,5 @@ module _ (bearer period stamp packets octets : ℕ) (ps : List (List ℕ)) (c : 
 
   -- no order, repeat or loss makes an empty record refuse
   pub never_refused : (capacity : ℕ) (xs : List Piece) → capacity ≤ most_capacity → count_of ps ≤ capacity → PiecesOf ps xs
-      → answers_to (empty_kept bearer period stamp capacity) bearer period (map (frame_of stamp packets octets ps) xs) ≡ replicate (length xs) Done
+      → answers_to (empty_kept bearer period stamp capacity) bearer period (map (frame_of stamp packets octets ps) xs) ≡ replicate (length xs) (Ok tt)
   never_refused capacity xs fits room w = all_taken (empty_kept bearer period stamp capacity) (hears_first capacity fits room) w

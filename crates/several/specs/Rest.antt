@@ -2,8 +2,7 @@
 use Rattle.std.specs.Prelude.{ℕ, ◌≡◌, List, map}
 use Rattle.fields.specs.Runs.{front}
 use Rattle.reception.specs.declared.Head.{Head}
-use Rattle.reception.specs.declared.Taken.{Taken}
-use Rattle.reception.specs.declared.Taking.{Taking}
+use Rattle.reception.specs.Answers.{Taken, Taking}
 use Rattle.reception.specs.Hearing.{Kept, kept_in, Outcome, Takes}
 use Rattle.reception.specs.Several.{hear_all, answers_to, answer_of, answers_after}
 

@@ -10,42 +10,20 @@ ghost use Rattle.reception.specs.Several.{answers_to, answer_of, frames_in, hear
 ghost use Rattle.several.specs.Rest.{HearsAll, HearsSequence};
 
 use damage::lists_differ;
-use hearing::following::{empty_span, hear_next, lower};
+use hearing::following::{empty_span, hear_next};
 use hearing::taking::{clear, open_head, refused};
-use reception::{Head, Taken, Taking};
+use reception::{Answered, Head};
+use units::Refusal;
 use units::limits::LAST_STAMP;
-use units::refusal_in_one;
-use units::refusals::{CAPACITIES_DIFFER, NO_ROOM, STAMP_TOO_HIGH};
 
 // The answer to a frame in one number.
-fn answer_of(t: Taken) -> u64
+pub fn answer_of(t: Result<(), Refusal>) -> u64
     ensures { result ≡ answer_of t }
 {
     match t {
-        Taken::Done => 0,
-        Taken::Refused(r) => refusal_in_one(r),
+        Ok(()) => 0,
+        Err(r) => r.in_one(),
     }
-}
-
-// A place in a row of octets.
-fn place_of(x: u32) -> usize
-    ensures { result ≡ x }
-{
-    x as usize
-}
-
-// Where a part of n octets ends: not before it begins, and not behind the octets.
-fn end_in(begin: usize, end: usize, n: usize) -> usize
-    requires { begin ≤ n }
-    ensures { (begin ≤ result) × (result ≤ n) × (result - begin ≡ min (end - begin) (n - begin)) }
-{
-    if end < begin {
-        return begin;
-    }
-    if n < end {
-        return n;
-    }
-    end
 }
 
 // Hears frames into an empty record.
@@ -72,19 +50,16 @@ fn hear_frames(
     let mut head = h;
     let mut span = empty_span(marks.len());
     let mut from: usize = 0;
-    let mut i: usize = 0;
-    while i < ends.len() {
-        let next = i + 1;
-        let end = place_of(ends[i]);
-        let begin = lower(from, octets.len());
-        let part = &octets[begin..end_in(begin, end, octets.len())];
+    for i in 0..ends.len() {
+        // A part does not end before it begins, and not behind the octets.
+        let end = ends[i] as usize;
+        let begin = from.min(octets.len());
+        let part = &octets[begin..end.max(begin).min(octets.len())];
         let t = hear_next(head, span, marks, elapsed, sizes, bearer, period, part);
-        let answer = t.answer;
-        answers[i] = answer_of(answer);
+        answers[i] = answer_of(t.answer);
         head = t.head;
         span = t.span;
         from = end;
-        i = next;
     }
     head
 }
@@ -101,7 +76,7 @@ pub fn hear_sequence(
     octets: &[u8],
     ends: &[u32],
     answers: &mut [u64],
-) -> Taking
+) -> Answered<Refusal>
     ensures { HearsSequence
         (hear_sequence bearer period stamp (unused marks.old elapsed.old sizes.old)
         (frames_in octets.now 0 ends.now) (length answers.old))
@@ -109,21 +84,21 @@ pub fn hear_sequence(
         answers.old result marks.new elapsed.new sizes.new answers.new }
 {
     if lists_differ(marks.len(), elapsed.len(), sizes.len()) {
-        return refused(open_head(0, 0, 0), CAPACITIES_DIFFER);
+        return refused(open_head(0, 0, 0), Refusal::CapacitiesDiffer);
     }
     if LAST_STAMP < stamp as u64 {
-        return refused(open_head(0, 0, 0), STAMP_TOO_HIGH);
+        return refused(open_head(0, 0, 0), Refusal::StampTooHigh);
     }
     if answers.len() < ends.len() {
-        return refused(open_head(0, 0, 0), NO_ROOM);
+        return refused(open_head(0, 0, 0), Refusal::NoRoom);
     }
     clear(marks, elapsed, sizes);
     let h = open_head(bearer, period, stamp);
     let head = hear_frames(
         h, bearer, period, marks, elapsed, sizes, octets, ends, answers,
     );
-    Taking {
-        answer: Taken::Done,
-        head: head,
+    Answered {
+        answer: Ok(()),
+        head,
     }
 }

@@ -8,8 +8,11 @@ use native.Mathlib.Omega.{arith}
 use lib.Dec.{eqb}
 use lib.ListN.{length, length-append}
 use Rattle.fields.proofs.Tests.{either}
-use Rattle.lines.specs.Text.{fields_of, line, Puts}
-use Rattle.lines.proofs.Putting.{puts_then, line_length}
+use Rattle.lines.specs.declared.Text.{Text}
+use Rattle.lines.specs.Text.{fields_of, line}
+use Rattle.lines.specs.Adding.{Adds}
+use Rattle.lines.proofs.Putting.{line_length}
+use Rattle.lines.proofs.Added.{adds_then}
 use Rattle.reception.specs.declared.Head.{Head}
 use Rattle.reception.specs.declared.Report.{Report}
 use Rattle.reception.specs.Sendings.{Held, held_in}
@@ -34,14 +37,14 @@ pub sent_is : (r : Held) (t : Report) → t ≡ report_of r → t.sent.0 ≡ sen
 sent_is r t e = ap (λ (x : Report). x.sent.0) e
 
 -- the sequence, the figures of its report, the gaps and the end
-pub puts_account : (h : Head) (marks elapsed sizes : List ℕ) (t : Report) {old m₁ m₂ m₃ new : List ℕ} {at x y z w : ℕ} → at ≤ length old
-    → t ≡ report_of (held_in h marks elapsed sizes) → Puts (sequence_line h) old at x m₁ → Puts (figures_of t) m₁ x y m₂
-    → Puts (gap_lines (gaps_of (held_in h marks elapsed sizes))) m₂ y z m₃ → Puts (line end_word []) m₃ z w new
-    → Puts (account_text (kept_in h marks elapsed sizes)) old at w new
+pub adds_account : (h : Head) (marks elapsed sizes : List ℕ) (t : Report) {k l m n : ℕ} {t₀ t₁ t₂ t₃ t₄ : Text}
+    → t ≡ report_of (held_in h marks elapsed sizes) → Adds (sequence_line h) k t₀ t₁ → Adds (figures_of t) l t₁ t₂
+    → Adds (gap_lines (gaps_of (held_in h marks elapsed sizes))) m t₂ t₃ → Adds (line end_word []) n t₃ t₄
+    → Adds (account_text (kept_in h marks elapsed sizes)) (k + l + m + n) t₀ t₄
 unfolding account_text figures_of
-puts_account h marks elapsed sizes t le e sequence figures gaps end =
-    let f : Puts (figures_of (report_of (held_in h marks elapsed sizes))) _ _ _ _ = rw e at figures in
-    puts_then le (puts_then le (puts_then le sequence f) gaps) end
+adds_account h marks elapsed sizes t e sequence figures gaps end =
+    let f : Adds (figures_of (report_of (held_in h marks elapsed sizes))) _ _ _ = rw e at figures in
+    adds_then (adds_then (adds_then sequence f) gaps) end
 
 -- a gap's line takes 67 octets at most
 gap_lines_length : (gs : List Gap) → length (gap_lines gs) ≤ 67 * length gs

@@ -7,8 +7,10 @@ use native.Mathlib.Omega.{arith}
 use lib.ListN.{length}
 use Rattle.units.specs.Limits.{most_capacity}
 use Rattle.units.specs.declared.Octets.{Octets}
-use Rattle.lines.specs.Text.{line, Puts}
-use Rattle.lines.proofs.Putting.{puts_then}
+use Rattle.lines.specs.declared.Text.{Text}
+use Rattle.lines.specs.Text.{line}
+use Rattle.lines.specs.Adding.{Adds}
+use Rattle.lines.proofs.Added.{adds_then, adds_in}
 use Rattle.reception.specs.Sendings.{Held}
 use Rattle.reception.specs.Reporting.{Gap, gap_to, gaps_of, sent_packets}
 use Rattle.reception.proofs.ReportAccounts.{SentAs}
@@ -23,63 +25,55 @@ lines_append (g ∷ gs) more =
     let l = line gap_word (g.first ∷ g.count ∷ g.octets ∷ []) in
     ap (λ (xs : List ℕ). l ++ xs) (lines_append gs more) ∙ sym (append_assoc l (gap_lines gs) (gap_lines more))
 
--- the loop is at place k, and the next line goes to place w: when those of the gaps that are left are put there, then those of all stand
--- from at on
-pub record Telling (r : Held) (n : ℕ) (out₀ : List ℕ) (at : ℕ) (out : List ℕ) (i a w k : ℕ) : Type 0 where
+-- the loop is at place k: when the lines of the gaps that are left are put, then those of all stand from where it began
+pub record Telling (r : Held) (n : ℕ) (text₀ text : Text) (i a k : ℕ) : Type 0 where
   pub going : Going r n i a k
-  pub long : length out ≡ length out₀
-  pub room : at + 67 * (n + 1) ≤ length out₀
-  pub few : w ≤ at + 67 * k
-  pub rest : (end : ℕ) (new : List ℕ) → Puts (gap_lines (left r n k i a)) out w end new → Puts (gap_lines (gaps_of r)) out₀ at end new
+  pub long : length text.out.now ≡ length text₀.out.now
+  pub few : text.at ≤ text₀.at + 67 * k
+  pub rest : (m : ℕ) (new : Text) → Adds (gap_lines (left r n k i a)) m text new → Adds (gap_lines (gaps_of r)) (67 * k + m) text₀ new
 
-pub telling_start : (r : Held) (n : ℕ) (out : List ℕ) (at : ℕ) → (s : List ℕ) × SentAs r s → r.capacity ≤ most_capacity → n ≡ sent_packets r
-    → at + 67 * (n + 1) ≤ length out → Telling r n out at out 0 0 at 0
-telling_start r n out at x fits e room =
+pub telling_start : (r : Held) (n : ℕ) (text : Text) → (s : List ℕ) × SentAs r s → r.capacity ≤ most_capacity → n ≡ sent_packets r
+    → Telling r n text text 0 0 0
+telling_start r n text x fits e =
     record {
       going = going_start r n e x fits;
       long = refl;
-      room = room;
       few = omega arith;
-      rest = λ end new p. rw (all_left r n e) at p;
+      rest = λ m new p. adds_in (67 * 0 + m) (omega arith) (rw (all_left r n e) at p);
     }
 
-module _ (r : Held) (n : ℕ) (out₀ : List ℕ) (at : ℕ) (out : List ℕ) (i a w k : ℕ) (g : Telling r n out₀ at out i a w k) where
-  -- there is room for a line
-  pub line_fits : w + 67 ≤ length out
-  line_fits = omega (arith, g.few, g.room, g.long, g.going.here)
-
+module _ (r : Held) (n : ℕ) (text₀ text : Text) (i a k : ℕ) (g : Telling r n text₀ text i a k) where
   -- what is left begins with the gaps gs, and their lines were put
-  behind : (gs more : List Gap) → left r n k i a ≡ gs ++ more → {v : ℕ} {out' : List ℕ} → Puts (gap_lines gs) out w v out'
-      → (end : ℕ) (new : List ℕ) → Puts (gap_lines more) out' v end new → Puts (gap_lines (gaps_of r)) out₀ at end new
-  behind gs more e p end new q = g.rest end new (rw (e, lines_append gs more) (puts_then (omega (arith, line_fits)) p q))
+  behind : (gs more : List Gap) → left r n k i a ≡ gs ++ more → {l : ℕ} {text' : Text} → Adds (gap_lines gs) l text text'
+      → (m : ℕ) (new : Text) → Adds (gap_lines more) m text' new → Adds (gap_lines (gaps_of r)) (67 * k + (l + m)) text₀ new
+  behind gs more e {l} p m new q = g.rest (l + m) new (rw (e, lines_append gs more) (adds_then p q))
 
   module _ (lt : k < n) where
     -- packet k was heard, and the line of the gap before it was put
-    pub heard_told : r.mark k ≡ 1 → (e l : ℕ) → e ≡ r.elapsed k → l ≡ r.size k → (v : ℕ) (out' : List ℕ) → length out' ≡ length out
-        → Puts (gap_lines (gap_to i a k e)) out w v out' × (v ≤ w + 67) → Telling r n out₀ at out' (k + 1) (e + l) v (k + 1)
-    heard_told t e l el ll v out' long p =
+    pub heard_told : r.mark k ≡ 1 → (e l : ℕ) → e ≡ r.elapsed k → l ≡ r.size k → (text' : Text) → Adds (gap_lines (gap_to i a k e)) 67 text text'
+        → Telling r n text₀ text' (k + 1) (e + l) (k + 1)
+    heard_told t e l el ll text' p =
         record {
           going = going_heard r n i a k g.going lt t e l el ll;
-          long = long ∙ g.long;
-          room = g.room;
-          few = omega (arith, g.few, p.1);
-          rest = behind (gap_to i a k e) (left r n (k + 1) (k + 1) (e + l)) (next r n i a k g.going lt t e l el ll) p.0;
+          long = p.long ∙ g.long;
+          few = omega (arith, g.few, p.within);
+          rest = λ m new q.
+              adds_in (67 * (k + 1) + m) (omega arith)
+              (behind (gap_to i a k e) (left r n (k + 1) (k + 1) (e + l)) (next r n i a k g.going lt t e l el ll) p m new q);
         }
 
     -- or not
-    pub unheard_told : (r.mark k ≡ 1 → ⊥) → Telling r n out₀ at out i a w (k + 1)
+    pub unheard_told : (r.mark k ≡ 1 → ⊥) → Telling r n text₀ text i a (k + 1)
     unheard_told t =
         record {
           going = going_unheard r n i a k g.going lt t;
           long = g.long;
-          room = g.room;
           few = omega (arith, g.few);
-          rest = λ end new p. g.rest end new (rw (same r n i a k g.going lt t) p);
+          rest = λ m new p. adds_in (67 * (k + 1) + m) (omega arith) (g.rest m new (rw (same r n i a k g.going lt t) p));
         }
 
   -- the loop is left, and the line of the gap before the end of what was sent was put
-  pub all_told : n ≤ k → (total : Octets) → total ≡ record { 0 = cond r.closed r.total a } → (end : ℕ) (new : List ℕ)
-      → Puts (gap_lines (gap_to i a n total.0)) out w end new × (end ≤ w + 67)
-      → Puts (gap_lines (gaps_of r)) out₀ at end new × (end ≤ at + 67 * (n + 1))
-  all_told le total q end new p =
-      (g.rest end new (rw (last_left r n i a k g.going le total q) p.0), omega (arith, p.1, g.few, g.going.here))
+  pub all_told : n ≤ k → (total : Octets) → total ≡ record { 0 = cond r.closed r.total a } → (new : Text)
+      → Adds (gap_lines (gap_to i a n total.0)) 67 text new → Adds (gap_lines (gaps_of r)) (67 * (n + 1)) text₀ new
+  all_told le total q new p =
+      adds_in (67 * (n + 1)) (omega (arith, g.going.here)) (g.rest 67 new (rw (last_left r n i a k g.going le total q) p))

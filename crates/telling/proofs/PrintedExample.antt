@@ -9,7 +9,7 @@ use lib.Dec.{ltb}
 use lib.ListN.{length, get_or, length-replicate}
 use borrow.Author.Tests.{le-ltb}
 use Rattle.units.specs.Limits.{most_payload, most_capacity}
-use Rattle.units.specs.Refusals.{refusing, refusing_check}
+use Rattle.units.specs.Refusals.{header_refusal, payload_refusal}
 use Rattle.frame.specs.Counts.{sum_of}
 use Rattle.frame.proofs.BenchExamples.{C, C_read}
 use Rattle.lines.specs.Text.{digits_within, decimal, field, fields_of, line}
@@ -29,6 +29,7 @@ use Rattle.reception.proofs.StaysUndamaged.{empty_undamaged}
 use Rattle.reception.proofs.SmallReports.{nothing_no_gaps, empty_zeros}
 use Rattle.telling.specs.Account.{sequence_line, gap_lines, figure_lines, account_text, refused_line, bad_line, end_word}
 use Rattle.telling.specs.Parts.{figures_of}
+use Rattle.units.specs.declared.refusals.Refusal.TheVariants.{CountsImpossible}
 
 -- "sequence 7 3 0 closed", "sent 1 1", "heard 0 0", "missing 1 1", "gap 0 1 1", "end"
 abbrev pub printed : List ℕ
@@ -119,18 +120,18 @@ fresh_printed c =
     nothing_heard c k h = let z : ◌≡◌ {A = ℕ} 0 1 = h.marked in omega (arith, z)
 
 -- "refused 2 8": other refusals print as they did
-pub refused_printed : refused_line 2 (refusing 8) ≡ 114 ∷ 101 ∷ 102 ∷ 117 ∷ 115 ∷ 101 ∷ 100 ∷ 32 ∷ 50 ∷ 32 ∷ 56 ∷ 10 ∷ []
+pub refused_printed : refused_line 2 CountsImpossible ≡ 114 ∷ 101 ∷ 102 ∷ 117 ∷ 115 ∷ 101 ∷ 100 ∷ 32 ∷ 50 ∷ 32 ∷ 56 ∷ 10 ∷ []
 unfolding digits_within decimal field fields_of line
 refused_printed = refl
 
 -- "refused 4 7 514 49": example D as document 01 prints it
-pub checks_printed : refused_line 4 (refusing_check 7 514 49)
+pub checks_printed : refused_line 4 (payload_refusal 514 49)
     ≡ 114 ∷ 101 ∷ 102 ∷ 117 ∷ 115 ∷ 101 ∷ 100 ∷ 32 ∷ 52 ∷ 32 ∷ 55 ∷ 32 ∷ 53 ∷ 49 ∷ 52 ∷ 32 ∷ 52 ∷ 57 ∷ 10 ∷ []
 unfolding digits_within decimal field fields_of line
 checks_printed = refl
 
 -- "refused 2 4 0 19": a check that is 0 is printed
-pub zero_printed : refused_line 2 (refusing_check 4 0 19)
+pub zero_printed : refused_line 2 (header_refusal 0 19)
     ≡ 114 ∷ 101 ∷ 102 ∷ 117 ∷ 115 ∷ 101 ∷ 100 ∷ 32 ∷ 50 ∷ 32 ∷ 52 ∷ 32 ∷ 48 ∷ 32 ∷ 49 ∷ 57 ∷ 10 ∷ []
 unfolding digits_within decimal field fields_of line
 zero_printed = refl

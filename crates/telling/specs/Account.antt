@@ -1,7 +1,7 @@
 -- The text of an account (document 01, "The printed account"): octets of ASCII, line by line. Assumes nothing.
 use Rattle.std.specs.Prelude.{ℕ, ◌+◌, ◌*◌, cond, List, [], ◌∷◌, ◌++◌, length}
-use Rattle.units.specs.declared.Refusal.{Refusal}
-use Rattle.units.specs.Refusals.{tells_checks}
+use Rattle.units.specs.declared.refusals.Refusal.{Refusal}
+use Rattle.units.specs.Refusals.{number_of, found_of, worked_of, tells_checks}
 use Rattle.fields.specs.Choice.{◌when◌otherwise◌}
 use Rattle.lines.specs.Text.{fields_of, line}
 use Rattle.reception.specs.declared.Head.{Head}
@@ -64,11 +64,11 @@ account_text k = sequence_line k.head ++ figure_lines (held_by k) ++ gap_lines (
 
 -- document 02, request 6, of refusals 4 and 7: "The printed account shows both in decimal after the number"
 abbrev pub checks_of : Refusal → List ℕ
-checks_of r = (r.found ∷ r.worked_out ∷ []) when tells_checks r.number otherwise []
+checks_of r = (found_of r ∷ worked_of r ∷ []) when tells_checks (number_of r) otherwise []
 
 -- "a refused one prints "refused", its place among all items from 1, its number"; with 4 and 7 the checks behind it
 abbrev pub refused_line : ℕ → Refusal → List ℕ
-refused_line place r = line refused_word (place ∷ r.number ∷ checks_of r)
+refused_line place r = line refused_word (place ∷ number_of r ∷ checks_of r)
 
 -- "prints "bad input" and the item's offset in octets from 0"
 abbrev pub bad_line : ℕ → List ℕ

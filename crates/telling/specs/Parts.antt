@@ -1,12 +1,8 @@
--- Parts of an account: a line that is begun, and the figures of a report. Assumes nothing.
+-- A part of an account: the figures of a report. Assumes nothing.
 use Rattle.std.specs.Prelude.{ℕ, List, [], ◌∷◌, ◌++◌}
-use Rattle.lines.specs.Text.{fields_of, line}
+use Rattle.lines.specs.Text.{line}
 use Rattle.reception.specs.declared.Report.{Report}
 use Rattle.telling.specs.Account.{sent_word, heard_word, missing_word}
-
--- a word and numbers behind it, and no line's end yet
-unfoldable pub begun : List ℕ → List ℕ → List ℕ
-begun word numbers = word ++ fields_of numbers
 
 -- the lines of what was sent, heard and missing
 unfoldable pub figures_of : Report → List ℕ

@@ -1,7 +1,9 @@
 -- The refusal numbers by name: the rows of document 01, "Refusal numbers", but for one that document 02, request 9, took out (decision 22).
 -- Assumes nothing.
-use Rattle.std.specs.Prelude.{ℕ, Bool, ◌||◌, List, [], ◌∷◌, eqb}
-use Rattle.units.specs.declared.Refusal.{Refusal}
+use Rattle.std.specs.Prelude.{ℕ, Bool, ◌||◌, List, [], ◌∷◌, Option, None, Some, eqb}
+use Rattle.units.specs.declared.refusals.Checks.{Checks}
+use Rattle.units.specs.declared.refusals.Refusal.{Refusal}
+use Rattle.units.specs.declared.refusals.Refusal.TheVariants.{TooShort, TypeTwo, TypeUnknown, HeaderCheckWrong, StampTooHigh, SizeWrong, PayloadCheckWrong, CountsImpossible, OtherSequence, BeyondCapacity, Contradiction, NoRoom, RecordDamaged, CapacitiesDiffer, OutOfTurn, StampNotLater, SequenceFull, PeriodFull, PayloadTooLong, SenderDamaged, LengthsWrong, PeriodOver}
 
 -- no octet at all, or fewer than the type's least size
 abbrev pub too_short : ℕ
@@ -96,14 +98,81 @@ abbrev pub refusals : List ℕ
 refusals =
     too_short ∷ type_two ∷ type_unknown ∷ header_check_wrong ∷ stamp_too_high ∷ size_wrong ∷ payload_check_wrong ∷ counts_impossible ∷ other_sequence ∷ beyond_capacity ∷ contradiction ∷ no_room ∷ record_damaged ∷ capacities_differ ∷ out_of_turn ∷ stamp_not_later ∷ sequence_full ∷ period_full ∷ payload_too_long ∷ sender_damaged ∷ lengths_wrong ∷ period_over ∷ []
 
+-- which row of the table a refusal is
+abbrev pub number_of : Refusal → ℕ
+number_of TooShort = too_short
+number_of TypeTwo = type_two
+number_of TypeUnknown = type_unknown
+number_of (HeaderCheckWrong c) = header_check_wrong
+number_of StampTooHigh = stamp_too_high
+number_of SizeWrong = size_wrong
+number_of (PayloadCheckWrong c) = payload_check_wrong
+number_of CountsImpossible = counts_impossible
+number_of OtherSequence = other_sequence
+number_of BeyondCapacity = beyond_capacity
+number_of Contradiction = contradiction
+number_of NoRoom = no_room
+number_of RecordDamaged = record_damaged
+number_of CapacitiesDiffer = capacities_differ
+number_of OutOfTurn = out_of_turn
+number_of StampNotLater = stamp_not_later
+number_of SequenceFull = sequence_full
+number_of PeriodFull = period_full
+number_of PayloadTooLong = payload_too_long
+number_of SenderDamaged = sender_damaged
+number_of LengthsWrong = lengths_wrong
+number_of PeriodOver = period_over
+
 -- document 02, request 6: which refusals tell of a check, "4 and 7"
 abbrev pub tells_checks : ℕ → Bool
 tells_checks n = eqb n header_check_wrong || eqb n payload_check_wrong
 
 -- document 02, request 6: "shall give, with refusals 4 and 7, the check found and the check worked out"
-abbrev pub refusing_check : ℕ → ℕ → ℕ → Refusal
-refusing_check n found worked = record { number = n; found = found; worked_out = worked }
+abbrev pub told_checks : Refusal → Option Checks
+told_checks TooShort = None
+told_checks TypeTwo = None
+told_checks TypeUnknown = None
+told_checks (HeaderCheckWrong c) = Some c
+told_checks StampTooHigh = None
+told_checks SizeWrong = None
+told_checks (PayloadCheckWrong c) = Some c
+told_checks CountsImpossible = None
+told_checks OtherSequence = None
+told_checks BeyondCapacity = None
+told_checks Contradiction = None
+told_checks NoRoom = None
+told_checks RecordDamaged = None
+told_checks CapacitiesDiffer = None
+told_checks OutOfTurn = None
+told_checks StampNotLater = None
+told_checks SequenceFull = None
+told_checks PeriodFull = None
+told_checks PayloadTooLong = None
+told_checks SenderDamaged = None
+told_checks LengthsWrong = None
+told_checks PeriodOver = None
 
--- the refusal with a number: "a refusal returns its number and zeros elsewhere"
-abbrev pub refusing : ℕ → Refusal
-refusing n = refusing_check n 0 0
+-- the check found: "a refusal returns its number and zeros elsewhere"
+abbrev pub found_in : Option Checks → ℕ
+found_in (Some c) = c.found
+found_in None = 0
+
+-- and the check worked out
+abbrev pub worked_in : Option Checks → ℕ
+worked_in (Some c) = c.worked_out
+worked_in None = 0
+
+-- of a refusal
+abbrev pub found_of : Refusal → ℕ
+found_of r = found_in (told_checks r)
+
+abbrev pub worked_of : Refusal → ℕ
+worked_of r = worked_in (told_checks r)
+
+-- the refusal of a wrong header check, with the check found and the check worked out
+abbrev pub header_refusal : ℕ → ℕ → Refusal
+header_refusal found worked = HeaderCheckWrong (record { found = found; worked_out = worked })
+
+-- and of a wrong payload check
+abbrev pub payload_refusal : ℕ → ℕ → Refusal
+payload_refusal found worked = PayloadCheckWrong (record { found = found; worked_out = worked })

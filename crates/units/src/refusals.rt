@@ -1,77 +1,92 @@
-// The refusal numbers by name.
+// The refusals: each row of the refusal table is a case, and a wrong check has both checks with it.
 ghost use Rattle.std.specs.Prelude.{◌≡◌};
-ghost use Rattle.units.specs.Refusals.{refusals};
+ghost use Rattle.units.specs.OneNumber.{refusal_in_one};
+ghost use Rattle.units.specs.Refusals.{found_of, number_of, told_checks, worked_of};
 
-pub const TOO_SHORT: u8 = 1;
+// Both checks of a frame: the one that stands there, and the one that was worked out.
+#[derive(Clone, Copy, Debug, PartialEq, Eq)]
+pub struct Checks {
+    pub found: u16,
+    pub worked_out: u16,
+}
 
-pub const TYPE_TWO: u8 = 2;
+// Why a call was refused. Number 19 of the table is not given.
+#[derive(Clone, Copy, Debug, PartialEq, Eq)]
+pub enum Refusal {
+    TooShort,
+    TypeTwo,
+    TypeUnknown,
+    HeaderCheckWrong(Checks),
+    StampTooHigh,
+    SizeWrong,
+    PayloadCheckWrong(Checks),
+    CountsImpossible,
+    OtherSequence,
+    BeyondCapacity,
+    Contradiction,
+    NoRoom,
+    RecordDamaged,
+    CapacitiesDiffer,
+    OutOfTurn,
+    StampNotLater,
+    SequenceFull,
+    PeriodFull,
+    PayloadTooLong,
+    SenderDamaged,
+    LengthsWrong,
+    PeriodOver,
+}
 
-pub const TYPE_UNKNOWN: u8 = 3;
+impl Refusal {
+    // Its number in the table.
+    pub fn number(self) -> u8
+        ensures { result ≡ number_of self }
+    {
+        match self {
+            Refusal::TooShort => 1,
+            Refusal::TypeTwo => 2,
+            Refusal::TypeUnknown => 3,
+            Refusal::HeaderCheckWrong(_) => 4,
+            Refusal::StampTooHigh => 5,
+            Refusal::SizeWrong => 6,
+            Refusal::PayloadCheckWrong(_) => 7,
+            Refusal::CountsImpossible => 8,
+            Refusal::OtherSequence => 9,
+            Refusal::BeyondCapacity => 10,
+            Refusal::Contradiction => 11,
+            Refusal::NoRoom => 12,
+            Refusal::RecordDamaged => 13,
+            Refusal::CapacitiesDiffer => 14,
+            Refusal::OutOfTurn => 15,
+            Refusal::StampNotLater => 16,
+            Refusal::SequenceFull => 17,
+            Refusal::PeriodFull => 18,
+            Refusal::PayloadTooLong => 20,
+            Refusal::SenderDamaged => 21,
+            Refusal::LengthsWrong => 22,
+            Refusal::PeriodOver => 23,
+        }
+    }
 
-pub const HEADER_CHECK_WRONG: u8 = 4;
+    // Both checks, where it tells of one.
+    pub fn checks(self) -> Option<Checks>
+        ensures { result ≡ told_checks self }
+    {
+        match self {
+            Refusal::HeaderCheckWrong(c) => Some(c),
+            Refusal::PayloadCheckWrong(c) => Some(c),
+            _ => None,
+        }
+    }
 
-pub const STAMP_TOO_HIGH: u8 = 5;
-
-pub const SIZE_WRONG: u8 = 6;
-
-pub const PAYLOAD_CHECK_WRONG: u8 = 7;
-
-pub const COUNTS_IMPOSSIBLE: u8 = 8;
-
-pub const OTHER_SEQUENCE: u8 = 9;
-
-pub const BEYOND_CAPACITY: u8 = 10;
-
-pub const CONTRADICTION: u8 = 11;
-
-pub const NO_ROOM: u8 = 12;
-
-pub const RECORD_DAMAGED: u8 = 13;
-
-pub const CAPACITIES_DIFFER: u8 = 14;
-
-pub const OUT_OF_TURN: u8 = 15;
-
-pub const STAMP_NOT_LATER: u8 = 16;
-
-pub const SEQUENCE_FULL: u8 = 17;
-
-pub const PERIOD_FULL: u8 = 18;
-
-pub const PAYLOAD_TOO_LONG: u8 = 20;
-
-pub const SENDER_DAMAGED: u8 = 21;
-
-pub const LENGTHS_WRONG: u8 = 22;
-
-pub const PERIOD_OVER: u8 = 23;
-
-// Every number, as specs/ lists them: a number that differs there is not proved.
-fn all_numbers() -> [u8; 22]
-    ensures { result ≡ refusals }
-{
-    [
-        TOO_SHORT,
-        TYPE_TWO,
-        TYPE_UNKNOWN,
-        HEADER_CHECK_WRONG,
-        STAMP_TOO_HIGH,
-        SIZE_WRONG,
-        PAYLOAD_CHECK_WRONG,
-        COUNTS_IMPOSSIBLE,
-        OTHER_SEQUENCE,
-        BEYOND_CAPACITY,
-        CONTRADICTION,
-        NO_ROOM,
-        RECORD_DAMAGED,
-        CAPACITIES_DIFFER,
-        OUT_OF_TURN,
-        STAMP_NOT_LATER,
-        SEQUENCE_FULL,
-        PERIOD_FULL,
-        PAYLOAD_TOO_LONG,
-        SENDER_DAMAGED,
-        LENGTHS_WRONG,
-        PERIOD_OVER,
-    ]
+    // All of it in one number: its own in the lowest eight bits, sixteen for the check found, and above them the check worked out.
+    pub fn in_one(self) -> u64
+        ensures { result ≡ refusal_in_one (number_of self) (found_of self) (worked_of self) }
+    {
+        let number = u64::from(self.number());
+        match self.checks() {
+            Some(c) => number + 256 * (u64::from(c.found) + 65536 * u64::from(c.worked_out)),
+            None => number,
+        }
+    }
 }

@@ -1,137 +1,122 @@
-// Each call of the sender, with its answer printed.
-use frame::Written;
-use sender::{Dispatch, Sender, Turned, Turning};
-use std::io;
+// A sender that is driven: each call's answer is printed, and the sender goes on from the state that the call gave.
+ghost use Rattle.std.specs.Prelude.{◌≤◌, length};
+ghost use Rattle.frame.specs.Paper.{written_paper};
 
-fn say(to: &impl Print, text: &str) -> io::Result<()> {
-    to.print(text)
-}
+use sender::{Called, Sender};
+use std::{fmt, io};
+use units::Refusal;
 
-fn say_refused(to: &impl Print, number: u8) -> io::Result<()> {
-    println!(to; "refused {number}")
-}
+// The octets of a frame, in hexadecimal.
+#[derive(Clone, Copy)]
+struct Hex<'a>(&'a [u8]);
 
-fn say_octet(to: &impl Print, octet: u8) -> io::Result<()> {
-    print!(to; "{octet:02x}")
-}
-
-fn say_octets(to: &impl Print, octets: &[u8]) -> io::Result<()> {
-    for octet in octets {
-        say_octet(to, *octet)?;
-    }
-    say(to, "\n")
-}
-
-fn turn(to: &impl Print, name: &str, t: Turning) -> io::Result<Sender> {
-    say(to, name)?;
-    say(to, ": ")?;
-    let answer = t.answer;
-    match answer {
-        Turned::Done => say(to, "done\n")?,
-        Turned::Refused(r) => say_refused(to, r.number)?,
-    }
-    Ok(t.sender)
-}
-
-fn frame(to: &impl Print, name: &str, t: Dispatch, out: &[u8]) -> io::Result<Sender> {
-    say(to, name)?;
-    say(to, ": ")?;
-    let answer = t.answer;
-    match answer {
-        Written::Done(n) => {
-            if n <= out.len() {
-                say_octets(to, &out[..n])?;
-            }
+impl fmt::Display for Hex<'_> {
+    fn fmt<W: fmt::Write>(&self, f: &mut fmt::Formatter<W>) -> fmt::Result {
+        for octet in self.0 {
+            write!(f, "{octet:02x}")?;
         }
-        Written::Refused(r) => say_refused(to, r.number)?,
+        Ok(())
     }
-    Ok(t.sender)
 }
 
-pub fn open(to: &impl Print, name: &str, s: Sender, stamp: u32) -> io::Result<Sender> {
-    turn(to, name, sender::opened(s, stamp))
-}
+// How many octets a frame has.
+#[derive(Clone, Copy)]
+struct Size(usize);
 
-pub fn renew(to: &impl Print, name: &str, s: Sender) -> io::Result<Sender> {
-    turn(to, name, sender::renewed(s))
-}
-
-pub fn data_into(
-    to: &impl Print,
-    name: &str,
-    s: Sender,
-    payload: &[u8],
-    out: &mut [u8],
-) -> io::Result<Sender> {
-    let t = sender::sent(s, payload, out);
-    frame(to, name, t, out)
-}
-
-pub fn data(to: &impl Print, name: &str, s: Sender, payload: &[u8]) -> io::Result<Sender> {
-    let mut memory = [0u8; 64];
-    data_into(to, name, s, payload, &mut memory)
-}
-
-fn close_into(to: &impl Print, name: &str, s: Sender, out: &mut [u8]) -> io::Result<Sender> {
-    let t = sender::closed(s, out);
-    frame(to, name, t, out)
-}
-
-pub fn close(to: &impl Print, name: &str, s: Sender) -> io::Result<Sender> {
-    let mut memory = [0u8; 18];
-    close_into(to, name, s, &mut memory)
-}
-
-fn close_with_into(
-    to: &impl Print,
-    name: &str,
-    s: Sender,
-    lengths: &[u16],
-    out: &mut [u8],
-) -> io::Result<Sender> {
-    let t = sender::closed_with_lengths(s, lengths, out);
-    frame(to, name, t, out)
-}
-
-pub fn close_with(to: &impl Print, name: &str, s: Sender, lengths: &[u16]) -> io::Result<Sender> {
-    let mut memory = [0u8; 64];
-    close_with_into(to, name, s, lengths, &mut memory)
-}
-
-// A frame of which only the size is printed.
-pub fn size_of_data(to: &impl Print, name: &str, s: Sender, payload: &[u8]) -> io::Result<Sender> {
-    let mut memory = [0u8; 4200];
-    let t = sender::sent(s, payload, &mut memory);
-    say(to, name)?;
-    say(to, ": ")?;
-    let answer = t.answer;
-    match answer {
-        Written::Done(n) => println!(to; "{n} octets")?,
-        Written::Refused(r) => say_refused(to, r.number)?,
+impl fmt::Display for Size {
+    fn fmt<W: fmt::Write>(&self, f: &mut fmt::Formatter<W>) -> fmt::Result {
+        write!(f, "{} octets", self.0)
     }
-    Ok(t.sender)
 }
 
-fn send_many(first: Sender, packets: u32, out: &mut [u8]) -> Sender {
-    let mut s = first;
-    for _ in 0..packets {
-        let next = sender::sent(s, b"", out);
-        s = next.sender;
+// A sender, and where its answers are printed.
+#[derive(Drop)]
+pub struct Driven<'a, P> {
+    pub to: &'a P,
+    pub sender: Sender,
+}
+
+impl<P: Print> Driven<'_, P> {
+    fn tell<T: fmt::Display + Drop>(
+        &self,
+        name: &str,
+        answer: Result<T, Refusal>,
+    ) -> io::Result<()> {
+        match answer {
+            Ok(said) => println!(self.to; "{name}: {said}"),
+            Err(r) => println!(self.to; "{name}: refused {}", r.number()),
+        }
     }
-    s
-}
 
-// Opens a sequence and sends so many packets without payload.
-pub fn drive(before: Sender, stamp: u32, packets: u32) -> Sender {
-    let mut memory = [0u8; 11];
-    let t = sender::opened(before, stamp);
-    let s = t.sender;
-    send_many(s, packets, &mut memory)
-}
+    fn turn(&mut self, name: &str, t: Called<()>) -> io::Result<()> {
+        self.sender = t.sender;
+        self.tell(name, t.answer.map(|()| "done"))
+    }
 
-// Closes a sequence, and prints nothing.
-pub fn end(before: Sender) -> Sender {
-    let mut memory = [0u8; 18];
-    let t = sender::closed(before, &mut memory);
-    t.sender
+    #[tactic(auto, unfolding(frame::specs::Paper::written_paper))]
+    fn frame(&mut self, name: &str, d: Called<usize>, out: &[u8]) -> io::Result<()>
+        requires { (written_paper d.answer).count ≤ length out.now }
+    {
+        self.sender = d.sender;
+        self.tell(name, d.answer.map(|n| Hex(&out[..n])))
+    }
+
+    pub fn open(&mut self, name: &str, stamp: u32) -> io::Result<()> {
+        self.turn(name, sender::opened(self.sender, stamp))
+    }
+
+    pub fn renew(&mut self, name: &str) -> io::Result<()> {
+        self.turn(name, sender::renewed(self.sender))
+    }
+
+    // Data, into memory of so many octets.
+    #[tactic(auto, unfolding(frame::specs::Paper::written_paper, sender::specs::Calls::data_call))]
+    pub fn data_into<const N: usize>(&mut self, name: &str, payload: &[u8]) -> io::Result<()>
+        requires { N ≤ 64 }
+    {
+        let mut memory = [0u8; N];
+        let d = sender::sent(self.sender, payload, &mut memory);
+        self.frame(name, d, &memory)
+    }
+
+    pub fn data(&mut self, name: &str, payload: &[u8]) -> io::Result<()> {
+        self.data_into::<64>(name, payload)
+    }
+
+    #[tactic(auto, unfolding(frame::specs::Paper::written_paper, sender::specs::Calls::close_call))]
+    pub fn close(&mut self, name: &str) -> io::Result<()> {
+        let mut memory = [0u8; 18];
+        let d = sender::closed(self.sender, &mut memory);
+        self.frame(name, d, &memory)
+    }
+
+    #[tactic(auto, unfolding(frame::specs::Paper::written_paper, sender::specs::Calls::close_with_call))]
+    pub fn close_with(&mut self, name: &str, lengths: &[u16]) -> io::Result<()> {
+        let mut memory = [0u8; 64];
+        let d = sender::closed_with_lengths(self.sender, lengths, &mut memory);
+        self.frame(name, d, &memory)
+    }
+
+    // A frame of which only the size is printed.
+    pub fn size_of_data(&mut self, name: &str, payload: &[u8]) -> io::Result<()> {
+        let mut memory = [0u8; 4200];
+        let d = sender::sent(self.sender, payload, &mut memory);
+        self.sender = d.sender;
+        self.tell(name, d.answer.map(Size))
+    }
+
+    // Opens a sequence and sends so many packets without payload; prints nothing.
+    pub fn drive(&mut self, stamp: u32, packets: u32) {
+        let mut memory = [0u8; 11];
+        self.sender = sender::opened(self.sender, stamp).sender;
+        for _ in 0..packets {
+            self.sender = sender::sent(self.sender, b"", &mut memory).sender;
+        }
+    }
+
+    // Closes a sequence, and prints nothing.
+    pub fn end(&mut self) {
+        let mut memory = [0u8; 18];
+        self.sender = sender::closed(self.sender, &mut memory).sender;
+    }
 }

@@ -1,6 +1,6 @@
 -- What every function that writes a frame promises. Assumes nothing.
 use Rattle.std.specs.Prelude.{◌≡◌, List, ℕ}
-use Rattle.frame.specs.declared.Written.{Written}
+use Rattle.frame.specs.Answers.{Written}
 use Rattle.frame.specs.Paper.{written_paper}
 use Rattle.frame.specs.Writing.{after}
 

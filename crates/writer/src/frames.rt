@@ -8,8 +8,8 @@ ghost use Rattle.writer.specs.Room.{RoomForLengths};
 
 use crate::packing::{filled_octets, put_lengths};
 use crate::parts::{put_checks, put_closing_control, put_control};
-use frame::ClosingPdu;
 use frame::sizes::{DATA_HEAD, LENGTHS_HEAD, LONG_CONTROL, SHORT_CONTROL};
+use frame::{ClosingPdu, PduType};
 use units::{Octets, Packets};
 
 // The payload in its place, and its check.
@@ -27,7 +27,7 @@ pub fn put_data(stamp: u32, number: Packets, elapsed: Octets, payload: &[u8], ou
     ensures { out.new ≡ front out.old (data_frame stamp number.0 elapsed.0 payload.now) }
 {
     let check = put_payload(payload, out);
-    put_control(out, 1, stamp, number, elapsed);
+    put_control(out, PduType::Data, stamp, number, elapsed);
     put_checks(out, SHORT_CONTROL, check);
 }
 
@@ -36,7 +36,7 @@ pub fn put_closing(c: ClosingPdu, out: &mut [u8])
     requires { closing_size ≤ length out.old }
     ensures { out.new ≡ front out.old (closing_frame c) }
 {
-    put_closing_control(out, 0, c);
+    put_closing_control(out, PduType::Closing, c);
     let header = checks::header_check(&out[..LONG_CONTROL]);
     out[LONG_CONTROL] = header << 2;
 }
@@ -49,6 +49,6 @@ pub fn put_with_lengths(c: ClosingPdu, lengths: &[u16], out: &mut [u8])
     put_lengths(lengths, out);
     let end = LENGTHS_HEAD + filled_octets(lengths.len());
     let check = checks::payload_check(&out[LENGTHS_HEAD..end]);
-    put_closing_control(out, 3, c);
+    put_closing_control(out, PduType::ClosingWithLengths, c);
     put_checks(out, LONG_CONTROL, check);
 }

@@ -29,6 +29,7 @@ fn put_two(out: &mut [u8], at: usize, a: u16, b: u16)
 }
 
 // A last length in two octets: its 12 bits, and four padding bits.
+// Kept beside `put_two`: it stores one octet less, so that neither can call the other.
 fn put_one(out: &mut [u8], at: usize, a: u16)
     requires { (a ≤ 4095) × (at + 2 ≤ length out.old) }
     ensures { out.new ≡ laid out.old at (octets 2 (a * 16)) }
@@ -50,14 +51,15 @@ pub fn put_lengths(lengths: &[u16], out: &mut [u8])
     requires { RoomForLengths lengths.now out.old }
     ensures { out.new ≡ laid out.old lengths_head (packed lengths.now) }
 {
-    let mut i: usize = 0;
-    let mut at: usize = LENGTHS_HEAD;
-    while 1 < lengths.len() - i {
-        put_two(out, at, lengths[i], lengths[i + 1]);
-        i += 2;
+    let mut rest = lengths;
+    let mut at = LENGTHS_HEAD;
+    while let [a, b, more @ ..] = rest {
+        put_two(out, at, *a, *b);
+        rest = more;
         at += 3;
     }
-    if i < lengths.len() {
-        put_one(out, at, lengths[i]);
+    match rest {
+        [a, ..] => put_one(out, at, *a),
+        [] => {}
     }
 }

@@ -4,30 +4,32 @@ ghost use Rattle.fields.specs.Numbers.{octets};
 ghost use Rattle.fields.specs.Runs.{laid, front};
 ghost use Rattle.checks.specs.Check.{header_check};
 ghost use Rattle.frame.specs.Sizes.{long_control, short_control};
+ghost use Rattle.frame.specs.Types.{number_of_type};
 ghost use Rattle.frame.specs.Writing.{control_part, closing_control};
 
 use crate::packing::put_both;
-use frame::ClosingPdu;
+use frame::{ClosingPdu, PduType};
 use units::{Octets, Packets};
 
 // The fields that all types have.
-pub fn put_control(out: &mut [u8], kind: u8, stamp: u32, number: Packets, elapsed: Octets)
-    requires { (kind < 16) × (short_control ≤ length out.old) }
-    ensures { out.new ≡ front out.old (control_part kind stamp number.0 elapsed.0) }
+// Kept: no struct for the three counts, since neither PDU has them as a part, and C's boundary gives them one by one.
+pub fn put_control(out: &mut [u8], kind: PduType, stamp: u32, number: Packets, elapsed: Octets)
+    requires { short_control ≤ length out.old }
+    ensures { out.new ≡ front out.old (control_part (number_of_type kind) stamp number.0 elapsed.0) }
 {
-    fields::put(out, 0, 1, (kind as u64) << 4);
-    fields::put(out, 1, 2, stamp as u64);
-    fields::put(out, 3, 2, number.0 as u64);
+    fields::put(out, 0, 1, u64::from(kind.number()) << 4);
+    fields::put(out, 1, 2, u64::from(stamp));
+    fields::put(out, 3, 2, u64::from(number.0));
     fields::put(out, 5, 4, elapsed.0);
 }
 
 // The control part of a closing PDU.
-pub fn put_closing_control(out: &mut [u8], kind: u8, c: ClosingPdu)
-    requires { (kind < 16) × (long_control ≤ length out.old) }
-    ensures { out.new ≡ front out.old (closing_control kind c) }
+pub fn put_closing_control(out: &mut [u8], kind: PduType, c: ClosingPdu)
+    requires { long_control ≤ length out.old }
+    ensures { out.new ≡ front out.old (closing_control (number_of_type kind) c) }
 {
     put_control(out, kind, c.stamp, c.number, c.elapsed);
-    fields::put(out, 9, 3, c.packets.0 as u64);
+    fields::put(out, 9, 3, u64::from(c.packets.0));
     fields::put(out, 12, 5, c.octets.0);
 }
 

@@ -1,40 +1,33 @@
 -- `account::run`: the first turn starts where the program's text does, and each goes on where the one before ended.
-use Rattle.std.proofs.Common.{[], refl, ap, ◌∙◌, rules, arith}
-use Rattle.hearing.specs.declared.contradicting.Span.{Span}
+use Rattle.std.proofs.Common.{refl, ◌∙◌, arith}
 use Rattle.account.proofs.Started.{started, starts}
-use Rattle.account.proofs.WholeRun.{none_so_far, one_turn_more, all_told, front_told, written}
+use Rattle.account.proofs.WholeRun.{none_so_far, one_turn_more, all_told, front_told}
 use Rattle.account.proofs.run.Goals as goal
 
-pub loop-turns-init : goal.loop-turns-init
-loop-turns-init g c =
+pub loop-init : goal.loop-init
+loop-init g c =
     let n = c.requires.0 in
     let z = c.clear.ensures in
     let m = rw n at z.0 in
     let e = rw n at z.1 in
     let s = rw n at z.2 in
-    let h = c.open_head.ensures in
-    let start = none_so_far _ (g.W.Write.contents c.args.to.now) _ [] (starts _ c.empty_span.result _ _ _ h m e s) refl in
     record {
       kept = record {
-        turns = record { ready = started _ _ _ _ _ _ _ h m e s (ap (λ (x : Span). x.end) c.empty_span.ensures); within = omega arith };
+        turns = record { ready = started _ _ _ _ _ m e s; within = omega arith };
         marks_same = refl;
         elapsed_same = refl;
         sizes_same = refl;
         input_same = refl;
         out_same = refl;
       };
-      so_far = λ more. start;
-      whole = search rules;
-      front = λ f. front_told _ _ _ _ _ _ start;
+      so_far = none_so_far _ _ _ _ (starts _ _ _ m e s) refl;
     }
 
-pub loop-turns-preserved : goal.loop-turns-preserved
-loop-turns-preserved g c =
-    let i = c.loop-turns.invariant in
+pub loop-preserved : goal.loop-preserved
+loop-preserved g c =
+    let i = c.loop.invariant in
     let t = c.turn-t.ensures in
     let k = c.turn-t.auto in
-    let w = c.write_all-told in
-    let s = i.so_far (search rules) in
     record {
       kept = record {
         turns = t.turns;
@@ -44,13 +37,18 @@ loop-turns-preserved g c =
         input_same = k.input ∙ i.kept.input_same;
         out_same = k.out ∙ i.kept.out_same;
       };
-      so_far = λ more.
-          let m = c.turns_after-turns.ensures.more more in
-          one_turn_more _ _ _ _ _ _ _ _ _ _ t _ _ _ _ s (written w.result m.1 w.ensures.bytes) m.0;
-      whole = λ all.
-          let m = c.ran_by-ran.ensures.whole all in
-          all_told _ _ _ _ _ _ _ _ _ _ t _ _ _ _ s (written w.result m.1 w.ensures.bytes) m.0;
-      front = λ f.
-          let m = c.ran_by-ran.ensures.front f in
-          front_told _ _ _ _ _ _ (one_turn_more _ _ _ _ _ _ _ _ _ _ t _ _ _ _ s (written w.result m.1 w.ensures.bytes) m.0);
+      so_far = one_turn_more _ _ _ _ _ _ _ _ _ _ t _ _ _ _ i.so_far c.in_ok-write_all.ensures.bytes c.if-t.false;
     }
+
+pub returns-then-t-clause-whole : goal.returns-then-t-clause-whole
+returns-then-t-clause-whole g c =
+    λ _. all_told _ _ _ _ _ _ _ _ _ _ c.turn-t.ensures _ _ _ _ c.loop.invariant.so_far c.in_ok-write_all.ensures.bytes c.if-t.true
+
+pub returns-after-loop-clause-front : goal.returns-after-loop-clause-front
+returns-after-loop-clause-front g c = λ _. front_told _ _ _ _ _ _ c.loop.invariant.so_far
+
+pub returns-in-Failed-clause-front : goal.returns-in-Failed-clause-front
+returns-in-Failed-clause-front g c =
+    λ _.
+    front_told _ _ _ _ _ _
+    (one_turn_more _ _ _ _ _ _ _ _ _ _ c.turn-t.ensures _ _ _ _ c.loop.invariant.so_far c.in_ok-write_all.ensures.bytes c.if-t.false)

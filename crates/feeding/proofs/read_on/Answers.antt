@@ -1,17 +1,15 @@
 -- `feeding::read_on`: one read more.
-use Rattle.feeding.proofs.ReadBehind.{read_twice}
-use Rattle.std.proofs.Common.{rules, ◌∙◌}
-use Rattle.feeding.proofs.ReadBytes.{more_read}
+use Rattle.std.proofs.Common.{◌≡◌, ◌+◌, sym, add-zero, ◌∙◌}
+use Rattle.std.specs.Result.{result_unwrap_or}
+use Rattle.feeding.proofs.ReadBehind.{one_read}
 use Rattle.feeding.proofs.read_on.Goals as goal
+use Rattle.feeding.proofs.read_on.Goals.{in-Ok, in-Err+else-not-try_again}
 
-pub loop-reads-preserved : goal.loop-reads-preserved
-loop-reads-preserved g c =
-    let i = c.loop-reads.invariant in
-    let r = c.read_once-f.ensures in
-    record {
-      behind = read_twice _ _ _ _ _ _ i.behind r.behind;
-      same = c.read_once-f.auto.input ∙ i.same;
-      room = c.reads_after-reads-in-loop-reads.ensures.room r.behind.within;
-      bytes = more_read _ _ _ _ _ _ _ _ i.behind.more r.behind.more i.behind.within r.behind.kept i.bytes r.bytes;
-      end = λ e. r.end e (i.room (search rules));
-    }
+pub loop-preserved : goal.loop-preserved
+loop-preserved g c =
+    let n : c.match-read.filled ≡ c.loop.filled + result_unwrap_or c.read.result 0 =
+    elim c.match-read.branch [
+      | in-Ok w ↦ rw w.in-Ok.is w.filled-is
+      | in-Err+else-not-try_again w ↦ rw w.in-Err.is (w.filled-is ∙ sym (add-zero c.loop.filled))
+    ] in
+    one_read _ _ c.read.result c.loop.invariant c.read.ensures.bound c.read.ensures.bytes n

@@ -9,7 +9,7 @@ use Rattle.frame.proofs.Said.{DataSaid, data_said, length_handed}
 use Rattle.reception.specs.Hearing.{kept_in, lists_differ, hear_read, hear_frame}
 use Rattle.hearing.proofs.Answered.{refused_as}
 use Rattle.reception.proofs.KeptAsHeld.{lists_matched}
-use Rattle.hearing.proofs.Judged.{same_outcome, frame_unmatched, frame_read, unread, closing_only}
+use Rattle.hearing.proofs.Judged.{same_outcome, frame_unmatched, frame_read, unread, closing_heard}
 use native.Mathlib.Omega.{arith}
 use Rattle.hearing.proofs.hear.Goals as goal
 use Rattle.hearing.proofs.hear.Lts as lts
@@ -50,12 +50,6 @@ hear_data-requires c =
     let l = length_handed _ _ d in
     record { cases = lists_matched _ _ _ (even c.before.before.before.before.before.before); elapsed_bound = (omega (arith, d.number, d.elapsed), omega (arith, l, d.short)); length_value = l }
 
-pub hear_closing-requires : goal.hear_closing-requires
-hear_closing-requires c = lists_matched _ _ _ (even c.before.before)
-
-pub hear_closing-requires-in-ClosingWithLengths : goal.hear_closing-requires-in-ClosingWithLengths
-hear_closing-requires-in-ClosingWithLengths c = lists_matched _ _ _ (even c.before.before)
-
 pub returns-in-Refused : goal.returns-in-Refused
 returns-in-Refused c =
     same_outcome (heard_as c.before.before _ c.in-Refused.is) (unread _ _ _ _)
@@ -64,10 +58,11 @@ pub returns-in-Data : goal.returns-in-Data
 returns-in-Data c =
     same_outcome (heard_as c.before.before.before.before.before.before.before.before.before.before.before.before.before _ c.in-Data.is) c.hear_data.ensures
 
+pub invariant_of-record : goal.invariant_of-record
+invariant_of-record c = record { matched = lists_matched _ _ _ (sym c.lists_differ.ensures ∙ c.if-lists_differ.false) }
+
 pub returns-in-Closing : goal.returns-in-Closing
 returns-in-Closing c =
-    same_outcome (heard_as c.before.before.before _ c.in-Closing.is) c.hear_closing.ensures
-
-pub returns-in-ClosingWithLengths : goal.returns-in-ClosingWithLengths
-returns-in-ClosingWithLengths c =
-    same_outcome (heard_as c.before.before.before _ c.in-ClosingWithLengths.is ∙ closing_only _ _ _ _) c.hear_closing-in-ClosingWithLengths.ensures
+    same_outcome
+    (closing_heard _ _ _ _ _ _ (sym c.lists_differ.ensures ∙ c.if-lists_differ.false) (sym (read_known c.read_frame-read.result _ c.read_frame-read.ensures)) c.in-Closing.is)
+    c.hear_closing.ensures

@@ -8,10 +8,9 @@ pub returns-then-is_damaged : goal.returns-then-is_damaged
 returns-then-is_damaged c =
     refused_as _ _ (closing_damaged _ _ _ _ (sym c.is_damaged.ensures ∙ c.if-is_damaged.true)) c.refused.ensures
 
-pub take_closing-requires : goal.take_closing-requires
-take_closing-requires c =
-    let p = c.requires in
-    record { cases = p; none_before = rw c.whole-span.ensures (all_before _); none_from = rw c.whole-span.ensures (all_from _); sizes_value = explained _ _ (sym c.is_damaged.ensures ∙ c.if-is_damaged.false) }
+pub invariant_of-take_closing : goal.invariant_of-take_closing
+invariant_of-take_closing c =
+    record { none_before = rw c.whole-span.ensures (all_before _); none_from = rw c.whole-span.ensures (all_from _); explained = explained _ _ (sym c.is_damaged.ensures ∙ c.if-is_damaged.false) }
 
 pub returns : goal.returns
 returns c =

@@ -3,9 +3,9 @@ use Rattle.numbers.proofs.InOne.{as_few}
 use Rattle.numbers_frames.proofs.FramesCounted.{few_closing, wrote}
 use Rattle.numbers_frames.proofs.closing_in_one.Goals as goal
 
-pub written_in_one-requires : goal.written_in_one-requires
-written_in_one-requires c = as_few _ _ c.write_closing-written.ensures.says (few_closing _ _)
+pub in_one-requires : goal.in_one-requires
+in_one-requires c = as_few _ _ c.write_closing.ensures.says (few_closing _ _)
 
 pub returns : goal.returns
 returns c =
-    wrote _ _ _ _ _ _ (rw c.closing_given-c.ensures at c.write_closing-written.ensures) c.written_in_one.ensures
+    wrote _ _ _ _ _ _ (rw c.closing_given-c.ensures at c.write_closing.ensures) c.in_one.ensures

@@ -3,9 +3,9 @@ use Rattle.numbers.proofs.InOne.{as_few}
 use Rattle.numbers_frames.proofs.FramesCounted.{few_lengths, wrote}
 use Rattle.numbers_frames.proofs.closing_with_lengths_in_one.Goals as goal
 
-pub written_in_one-requires : goal.written_in_one-requires
-written_in_one-requires c = as_few _ _ c.write_closing_with_lengths-written.ensures.says (few_lengths _ _ _)
+pub in_one-requires : goal.in_one-requires
+in_one-requires c = as_few _ _ c.write_closing_with_lengths.ensures.says (few_lengths _ _ _)
 
 pub returns : goal.returns
 returns c =
-    wrote _ _ _ _ _ _ (rw c.closing_given-given.ensures at c.write_closing_with_lengths-written.ensures) c.written_in_one.ensures
+    wrote _ _ _ _ _ _ (rw c.closing_given-given.ensures at c.write_closing_with_lengths.ensures) c.in_one.ensures

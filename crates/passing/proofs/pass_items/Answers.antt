@@ -12,26 +12,26 @@ pub step-w-requires : goal.step-w-requires
 step-w-requires c =
     let i = c.loop-stops.invariant in
     let o = goes_on_means _ _ _ _ (sym c.goes_on.ensures ∙ c.loop-stops-test.true) in
-    record { ready = i.ready; most_text_in_bounds = omega (arith, i.at_in, o.1) }
+    record { ready = i.ready; most_text_in_bounds = omega (arith, o.1, c.room.ensures) }
 
 pub overflow_sub-left : goal.overflow_sub-left
 overflow_sub-left c =
     let i = c.loop-stops.invariant in
     let l = to_end _ c.args.input.now in
-    used_less _ _ _ _ _ _ _ _ _ _ _ _ _ _ _ i _ _ _ _ _ _ l c.step-w.ensures
+    used_less _ _ _ _ _ _ _ _ _ _ _ _ _ _ i _ _ _ _ _ _ l c.step-w.ensures
 
 pub loop-stops-smaller : goal.loop-stops-smaller
 loop-stops-smaller c =
     let i = c.loop-stops.invariant in
     let l = to_end _ c.args.input.now in
-    passes_less _ _ _ _ _ _ _ _ _ _ _ _ _ _ _ i _ _ _ _ _ _ l c.step-w.ensures _ (sym c.goes_on.ensures ∙ c.loop-stops-test.true)
+    passes_less _ _ _ _ _ _ _ _ _ _ _ _ _ _ i _ _ _ _ _ _ l c.step-w.ensures _ (sym c.goes_on.ensures ∙ c.loop-stops-test.true)
 
 pub loop-stops-preserved : goal.loop-stops-preserved
 loop-stops-preserved c =
     let i = c.loop-stops.invariant in
     let l = to_end _ c.args.input.now in
     let k = c.step-w.auto in
-    passing_on _ _ _ _ _ _ _ _ _ _ _ _ _ _ _ i _ _ _ _ _ _ l c.step-w.ensures _ (sym c.goes_on.ensures ∙ c.loop-stops-test.true) k.marks k.elapsed k.sizes k.out
+    passing_on _ _ _ _ _ _ _ _ _ _ _ _ _ _ i _ _ _ _ _ _ l c.step-w.ensures _ (sym c.goes_on.ensures ∙ c.loop-stops-test.true) k.marks k.elapsed k.sizes
 
 pub shape_of-marks : goal.shape_of-marks
 shape_of-marks c = c.loop-stops.invariant.marks_same
@@ -42,10 +42,7 @@ shape_of-elapsed c = c.loop-stops.invariant.elapsed_same
 pub shape_of-sizes : goal.shape_of-sizes
 shape_of-sizes c = c.loop-stops.invariant.sizes_same
 
-pub shape_of-out : goal.shape_of-out
-shape_of-out c = c.loop-stops.invariant.out_same
-
 pub returns : goal.returns
 returns c =
-    let p = passing_done _ _ _ _ _ _ _ _ _ _ _ _ _ _ _ c.loop-stops.invariant (sym c.goes_on.ensures ∙ c.loop-stops-test.false) in
+    let p = passing_done _ _ _ _ _ _ _ _ _ _ _ _ _ _ c.loop-stops.invariant (rw c.room.ensures at (sym c.goes_on.ensures ∙ c.loop-stops-test.false)) in
     record { passed = p.0; stops_after = p.1 }

@@ -1,41 +1,18 @@
 -- `sender::closed` meets its contract. Assumes nothing.
 use mathlib.Core.Path.{◌≡◌, sym, ap, ◌∙◌}
-use mathlib.Core.Bool.{true, false, not}
-use borrow.Author.Tests.{lt-ltb, le-ltb}
+use mathlib.Core.Bool.{false, not}
+use borrow.Author.Tests.{le-ltb}
 use lib.ListN.{length}
 use Prim.Native.Nat.{◌≤◌}
-use Rattle.frame.specs.declared.Written.{Written}
+use Rattle.frame.specs.Answers.{Written}
 use Rattle.frame.specs.Paper.{written_paper}
 use Rattle.frame.specs.Writing.{after, closing_frame}
 use Rattle.sender.specs.State.{damaged, is_open, closing_by}
 use Rattle.sender.specs.Calls.{close_call}
-use Rattle.sender.proofs.Answering.{kept, written}
+use Rattle.sender.proofs.Answering.{written}
 use Rattle.sender.proofs.Undamaged.{undamaged}
 use Rattle.sender.proofs.Written.{closing_written}
 use Rattle.sender.proofs.closed.Goals as goal
-
-pub returns-then-is_damaged : goal.returns-then-is_damaged
-unfolding close_call
-returns-then-is_damaged c =
-    let s = c.args.s in
-    let g : damaged s ≡ true = sym c.is_damaged.ensures ∙ c.if-is_damaged.true in
-    kept c.send_refused.ensures (simp g)
-
-pub returns-then-not-is_open : goal.returns-then-not-is_open
-unfolding close_call
-returns-then-not-is_open c =
-    let s = c.args.s in
-    let g : damaged s ≡ false = sym c.is_damaged.ensures ∙ c.if-is_damaged.false in
-    let o : not (is_open s.phase) ≡ true = ap not (sym c.is_open.ensures ∙ c.if-not-is_open.true) in
-    kept c.send_refused-then-not-is_open.ensures (simp (g, o))
-
-pub returns-then-out-lt-CLOSING_SIZE : goal.returns-then-out-lt-CLOSING_SIZE
-unfolding close_call
-returns-then-out-lt-CLOSING_SIZE c =
-    let s = c.args.s in
-    let g : damaged s ≡ false = sym c.is_damaged.ensures ∙ c.if-is_damaged.false in
-    let o : not (is_open s.phase) ≡ false = ap not (sym c.is_open.ensures ∙ c.if-not-is_open.false) in
-    kept c.send_refused-then-out-lt-CLOSING_SIZE.ensures (simp (g, o, lt-ltb _ _ c.if-out-lt-CLOSING_SIZE.true))
 
 pub returns : goal.returns
 unfolding close_call
@@ -46,7 +23,7 @@ returns c =
     let out = c.args.out.now in
     let h : 18 ≤ length out = c.if-out-lt-CLOSING_SIZE.false in
     let w = closing_written s (undamaged s g) (length out) h in
-    let e = rw c.closing_of.ensures at c.write_closing-answer.ensures in
+    let e = rw c.closing.ensures at c.write_closing-answer.ensures in
     written
     (simp (g, o, le-ltb _ _ h))
     (e.says ∙ ap written_paper w)

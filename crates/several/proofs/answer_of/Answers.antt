@@ -4,10 +4,10 @@ use Rattle.reception.specs.Hearing.{taken_paper}
 use Rattle.reception.specs.Several.{answer_of}
 use Rattle.several.proofs.answer_of.Goals as goal
 
-pub returns-in-Done : goal.returns-in-Done
+pub returns-in-Ok : goal.returns-in-Ok
 unfolding taken_paper
-returns-in-Done c = ap answer_of (sym c.in-Done.is)
+returns-in-Ok c = ap answer_of (sym c.in-Ok.is)
 
-pub returns-in-Refused : goal.returns-in-Refused
+pub returns-in-Err : goal.returns-in-Err
 unfolding taken_paper
-returns-in-Refused c = c.refusal_in_one.ensures ∙ ap answer_of (sym c.in-Refused.is)
+returns-in-Err c = c.in_one.ensures ∙ ap answer_of (sym c.in-Err.is)

@@ -1,4 +1,5 @@
 -- `several::hear_frames` meets its contract. Assumes nothing.
+use mathlib.Core.Path.{refl}
 use Rattle.reception.proofs.KeptAsHeld.{matched_lists}
 use Rattle.reception.proofs.WhatHearingAdds.{sound_lists}
 use Rattle.several.proofs.HeardSoFar.{none_yet, one_more_at, all_heard}
@@ -23,7 +24,7 @@ offset_bounds-answers-i c =
 
 pub loop-i-preserved : goal.loop-i-preserved
 loop-i-preserved c =
-    one_more_at _ _ _ _ _ _ _ _ _ _ _ _ _ _ _ c.loop-i.invariant c.loop-i-test.true _ c.place_of-end.ensures _ (part_is _ _ _ _ _ c.lower-begin.ensures c.end_in.ensures.2) _ _ _ _ c.hear_next-t.ensures _ c.answer_of.ensures c.hear_next-t.auto.marks c.hear_next-t.auto.elapsed c.hear_next-t.auto.sizes
+    one_more_at _ _ _ _ _ _ _ _ _ _ _ _ _ _ _ c.loop-i.invariant c.loop-i-test.true _ refl _ (part_is _ _ _ _ _ c.min-begin.ensures (omega (arith, c.min-begin.ensures, c.max.ensures, c.min.ensures))) _ _ _ _ c.hear_next-t.ensures _ c.answer_of.ensures c.hear_next-t.auto.marks c.hear_next-t.auto.elapsed c.hear_next-t.auto.sizes
 
 pub shape_of-marks : goal.shape_of-marks
 shape_of-marks c = c.loop-i.invariant.marks_long

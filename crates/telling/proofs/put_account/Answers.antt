@@ -1,24 +1,27 @@
 -- `telling::put_account` meets its contract. Assumes nothing.
 use native.Mathlib.Omega.{arith}
-use Rattle.telling.proofs.AccountMade.{sent_fits, sent_is, puts_account}
+use Rattle.lines.proofs.Added.{adds_in}
+use Rattle.telling.proofs.AccountMade.{sent_fits, sent_is, adds_account}
 use Rattle.telling.proofs.put_account.Goals as goal
 
-pub put_gaps-z-requires : goal.put_gaps-z-requires
-put_gaps-z-requires c =
+pub put_gaps-requires-clause-n_in_bounds : goal.put_gaps-requires-clause-n_in_bounds
+put_gaps-requires-clause-n_in_bounds c =
     let p = c.requires in
-    let n = sent_is _ _ c.count-r.ensures in
-    let f = sent_fits c.args.h _ _ _ p.cases p.sizes_value in
-    record { cases = p.cases; sizes_value = p.sizes_value; n_value = n; n_in_bounds = omega (arith, n, f, c.put_figures-y.ensures.1, c.put_sequence-x.ensures.1) }
+    let n = sent_is _ _ c.count-figures.ensures in
+    let f = sent_fits c.args.r.now.head _ _ _ c.args.r.now.matched p.undamaged in
+    omega (arith, n, f)
 
 pub put_close-requires : goal.put_close-requires
 put_close-requires c =
     let p = c.requires in
-    let n = sent_is _ _ c.count-r.ensures in
-    let f = sent_fits c.args.h _ _ _ p.cases p.sizes_value in
-    omega (arith, n, f, c.put_gaps-z.ensures.1, c.put_figures-y.ensures.1, c.put_sequence-x.ensures.1)
+    let n = sent_is _ _ c.count-figures.ensures in
+    let f = sent_fits c.args.r.now.head _ _ _ c.args.r.now.matched p.undamaged in
+    omega (arith, n, f)
 
 pub returns : goal.returns
 returns c =
     let p = c.requires in
-    let n = sent_is _ _ c.count-r.ensures in
-    let f = sent_fits c.args.h _ _ _ p.cases p.sizes_value in record { puts = puts_account c.args.h _ _ _ _ (omega arith) c.count-r.ensures c.put_sequence-x.ensures.0 c.put_figures-y.ensures.0 c.put_gaps-z.ensures.0 c.put_close.ensures.0; upper_bound = omega (arith, n, f, c.put_close.ensures.1, c.put_gaps-z.ensures.1, c.put_figures-y.ensures.1, c.put_sequence-x.ensures.1) }
+    let n = sent_is _ _ c.count-figures.ensures in
+    let f = sent_fits c.args.r.now.head _ _ _ c.args.r.now.matched p.undamaged in
+    adds_in _ (omega (arith, n, f))
+    (adds_account c.args.r.now.head _ _ _ _ c.count-figures.ensures c.put_sequence.ensures c.put_figures.ensures c.put_gaps.ensures c.put_close.ensures)

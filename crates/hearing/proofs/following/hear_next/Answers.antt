@@ -6,7 +6,7 @@ use Rattle.reception.specs.Hearing.{kept_in, hear_read, hear_frame}
 use Rattle.frame.proofs.OnePaper.{read_known}
 use Rattle.frame.proofs.Said.{DataSaid, data_said, length_handed}
 use Rattle.reception.proofs.KeptAsHeld.{matched_lists}
-use Rattle.hearing.proofs.Judged.{frame_read, packet_judged, closing_judged, closing_only, unread}
+use Rattle.hearing.proofs.Judged.{explained, frame_read, packet_judged, closing_judged, closing_heard, unread}
 use Rattle.hearing.proofs.SpanKept.{follows_still, same_follows}
 use native.Mathlib.Omega.{arith}
 use Rattle.hearing.proofs.following.hear_next.Goals as goal
@@ -42,12 +42,6 @@ next_packet-requires c =
     let l = length_handed _ _ d in
     record { cases = p.cases; none_before = p.none_before; none_from = p.none_from; sizes_value = p.sizes_value; number_bound = (omega (arith, d.number), omega (arith, d.number, d.elapsed), omega (arith, l, d.short), l) }
 
-pub next_closing-requires : goal.next_closing-requires
-next_closing-requires c = c.requires
-
-pub next_closing-requires-in-ClosingWithLengths : goal.next_closing-requires-in-ClosingWithLengths
-next_closing-requires-in-ClosingWithLengths c = c.requires
-
 pub returns-in-Refused : goal.returns-in-Refused
 returns-in-Refused c =
     let p = c.requires in
@@ -58,12 +52,15 @@ returns-in-Data c =
     let p = c.requires in
     same_follows (heard_as c.before.before.before.before.before.before.before.before.before.before.before.before.before _ c.in-Data.is ∙ packet_judged _ _ _ _ p.sizes_value) c.next_packet.ensures
 
+pub invariant_of-next_closing : goal.invariant_of-next_closing
+invariant_of-next_closing c =
+    let p = c.requires in
+    record { none_before = p.none_before; none_from = p.none_from; explained = explained _ _ p.sizes_value }
+
 pub returns-in-Closing : goal.returns-in-Closing
 returns-in-Closing c =
     let p = c.requires in
-    same_follows (heard_as c.before.before.before _ c.in-Closing.is ∙ closing_judged _ _ _ _ p.sizes_value) c.next_closing.ensures
-
-pub returns-in-ClosingWithLengths : goal.returns-in-ClosingWithLengths
-returns-in-ClosingWithLengths c =
-    let p = c.requires in
-    same_follows (heard_as c.before.before.before _ c.in-ClosingWithLengths.is ∙ closing_only _ _ _ _ ∙ closing_judged _ _ _ _ p.sizes_value) c.next_closing-in-ClosingWithLengths.ensures
+    same_follows
+    (closing_heard _ _ _ _ _ _ (matched_lists _ _ _ p.cases) (sym (read_known c.read_frame-read.result _ c.read_frame-read.ensures)) c.in-Closing.is
+    ∙ closing_judged _ _ _ _ p.sizes_value)
+    c.next_closing.ensures

@@ -7,18 +7,18 @@ pub returns-then-other_key : goal.returns-then-other_key
 returns-then-other_key c =
     refused_as _ _ (closing_other _ _ _ _ (sym c.other_key.ensures ∙ c.if-other_key.true)) c.refused.ensures
 
-pub returns-then-marks-c : goal.returns-then-marks-c
-returns-then-marks-c c =
-    refused_as _ _ (closing_beyond _ _ _ _ (sym c.other_key.ensures ∙ c.if-other_key.false) c.if-marks-c.true) c.refused-then-marks-c.ensures
+pub returns-then-r-c : goal.returns-then-r-c
+returns-then-r-c c =
+    refused_as _ _ (closing_beyond _ _ _ _ (sym c.other_key.ensures ∙ c.if-other_key.false) c.if-r-c.true) c.refused-then-r-c.ensures
 
 pub returns-then-closing_contradicts : goal.returns-then-closing_contradicts
 returns-then-closing_contradicts c =
     refused_as _ _
-    (closing_off_fact _ _ _ _ (sym c.other_key.ensures ∙ c.if-other_key.false) c.if-marks-c.false (sym c.closing_contradicts.ensures ∙ c.if-closing_contradicts.true))
+    (closing_off_fact _ _ _ _ (sym c.other_key.ensures ∙ c.if-other_key.false) c.if-r-c.false (sym c.closing_contradicts.ensures ∙ c.if-closing_contradicts.true))
     c.refused-then-closing_contradicts.ensures
 
 pub returns : goal.returns
 returns c =
     taken_as _
-    (closing_taken _ _ _ _ (sym c.other_key.ensures ∙ c.if-other_key.false) c.if-marks-c.false (sym c.closing_contradicts.ensures ∙ c.if-closing_contradicts.false))
+    (closing_taken _ _ _ _ (sym c.other_key.ensures ∙ c.if-other_key.false) c.if-r-c.false (sym c.closing_contradicts.ensures ∙ c.if-closing_contradicts.false))
     (rw c.with_closing.ensures refl)

@@ -10,7 +10,7 @@ returns-then-other_key c = refused_as _ _ (packet_other _ _ _ _ (sym c.other_key
 pub packet_contradicts-requires : goal.packet_contradicts-requires
 packet_contradicts-requires c =
     let p = c.requires in
-    record { cases = p.cases; none_before = p.none_before; none_from = p.none_from; sizes_value = p.sizes_value; k_in_bounds = (omega arith, p.e_bound.0, omega (arith, p.e_bound.1)) }
+    (omega arith, p.e_bound.0, omega (arith, p.e_bound.1))
 
 pub returns-then-packet_contradicts : goal.returns-then-packet_contradicts
 returns-then-packet_contradicts c =

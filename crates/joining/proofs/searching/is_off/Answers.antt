@@ -1,6 +1,8 @@
 -- `joining::searching::is_off` meets its contract. Assumes nothing.
 use native.Mathlib.Omega.{arith}
-use Rattle.reception.specs.Sendings.{held_in}
+use mathlib.Core.Path.{ap, ◌∙◌}
+use mathlib.Core.Bool.{not}
+use Rattle.reception.specs.Lent.{held}
 use Rattle.hearing.proofs.AskedOfNeighbours.{end_back, held_packet, far_off, by_next}
 use Rattle.joining.proofs.Answered.{and_heard, and_unheard}
 use Rattle.joining.proofs.BesideFound.{not_heard, was_heard, above_next}
@@ -12,27 +14,29 @@ returns-then-m-ne1 c = and_unheard _ _ c.if-m-ne1.true
 pub returns-then-next-k : goal.returns-then-next-k
 returns-then-next-k c =
     let h = was_heard _ _ _ _ _ _ _ c.requires.beside_is c.if-next-k.true c.requires.k_in_bounds.0 in
-    and_heard _ _ _ c.if-m-ne1.false (held_packet _ _ _ _ _ _ h c.from_u32.ensures.0 c.from_u16.ensures.0 _ c.differs.ensures)
+    and_heard _ _ _ c.if-m-ne1.false (held_packet _ _ _ _ _ _ h c.from.ensures c.from-then-next-k.ensures _ c.differs.ensures)
 
 pub is_fit-requires : goal.is_fit-requires
 is_fit-requires c =
-    let a = c.args in
-    let n = c.requires.beside_is.below.number_is a.h in
-    let b = end_back (held_in a.h a.marks.now a.elapsed.now a.sizes.now) a.k in
+    let r = c.args.left.now.inner in
+    let n = c.requires.beside_is.below.number_is r.head in
+    let b = end_back (held r) c.args.k in
     omega (arith, n, b)
 
 pub returns-then-not-is_fit : goal.returns-then-not-is_fit
 returns-then-not-is_fit c =
     let d = c.requires.beside_is in
+    let r = c.args.left.now in
     and_heard _ _ _ c.if-m-ne1.false
-    (far_off _ _ _ _ c.requires.sizes_value c.requires.k_in_bounds.0 (not_heard _ _ _ _ _ _ _ d c.if-next-k.false) _ _ (d.below.number_is c.args.h) (d.below.octets_are c.args.h) _ c.is_fit.ensures c.if-not-is_fit.true)
+    (ap not c.if-not-is_fit.true
+    ∙ far_off _ _ _ _ r.explained c.requires.k_in_bounds.0 (not_heard _ _ _ _ _ _ _ d c.if-next-k.false) _ _ (d.below.number_is r.inner.head) (d.below.octets_are r.inner.head) _ c.is_fit.ensures c.if-not-is_fit.true)
 
 pub next_follows-requires : goal.next_follows-requires
-next_follows-requires c =
-    record { cases = c.requires.cases; first_from = above_next _ _ _ _ _ _ _ c.requires.beside_is c.if-next-k.false }
+next_follows-requires c = above_next _ _ _ _ _ _ _ c.requires.beside_is c.if-next-k.false
 
-pub returns : goal.returns
-returns c =
+pub returns-else-not-is_fit : goal.returns-else-not-is_fit
+returns-else-not-is_fit c =
     let d = c.requires.beside_is in
+    let r = c.args.left.now in
     and_heard _ _ _ c.if-m-ne1.false
-    (by_next _ _ _ _ c.requires.sizes_value c.requires.k_in_bounds.0 (not_heard _ _ _ _ _ _ _ d c.if-next-k.false) _ _ (d.below.number_is c.args.h) (d.below.octets_are c.args.h) _ c.is_fit.ensures c.if-not-is_fit.false _ c.next_follows.ensures)
+    (by_next _ _ _ _ r.explained c.requires.k_in_bounds.0 (not_heard _ _ _ _ _ _ _ d c.if-next-k.false) _ _ (d.below.number_is r.inner.head) (d.below.octets_are r.inner.head) _ c.is_fit.ensures c.if-not-is_fit.false _ c.next_follows.ensures)

@@ -13,7 +13,7 @@ loop-next-init c = c.loop-k.invariant.walked.along
 
 pub overflow_add-next : goal.overflow_add-next
 overflow_add-next c =
-    omega (arith, (look_on _ _ _ c.loop-next.invariant _ c.is_unheard.ensures c.loop-next-test.true).inside, c.requires.cases.room)
+    omega (arith, (look_on _ _ _ c.loop-next.invariant _ c.is_unheard.ensures c.loop-next-test.true).inside, c.args.left.now.inner.matched.room)
 
 pub loop-next-smaller : goal.loop-next-smaller
 loop-next-smaller c = omega (arith, (look_on _ _ _ c.loop-next.invariant _ c.is_unheard.ensures c.loop-next-test.true).inside)
@@ -23,22 +23,21 @@ loop-next-preserved c = look_on _ _ _ c.loop-next.invariant _ c.is_unheard.ensur
 
 pub is_off-requires : goal.is_off-requires
 is_off-requires c =
-    let p = c.requires in
     let b = beside_found _ _ _ _ _ _ _ _ c.loop-k.invariant.walked c.loop-next.invariant _ c.is_unheard.ensures c.loop-next-test.false in
-    record { cases = p.cases; sizes_value = p.sizes_value; beside_is = b; k_in_bounds = (c.if-marks-k.false, c.from_u32-e.ensures.1, c.from_u16-l.ensures.1) }
+    record { beside_is = b; k_in_bounds = (c.if-left-k.false, omega arith, omega arith) }
 
 pub loop-k-preserved : goal.loop-k-preserved
 loop-k-preserved c =
     let b = beside_found _ _ _ _ _ _ _ _ c.loop-k.invariant.walked c.loop-next.invariant _ c.is_unheard.ensures c.loop-next-test.false in
-    let on = search_on _ _ _ _ _ _ _ _ _ _ _ c.loop-k.invariant c.if-marks-k.false _ _ c.from_u32-e.ensures.0 c.from_u16-l.ensures.0 _ c.is_off.ensures c.if-is_off.false in
+    let on = search_on _ _ _ _ _ _ _ _ _ _ _ c.loop-k.invariant c.if-left-k.false _ _ c.from-e.ensures c.from-l.ensures _ c.is_off.ensures c.if-is_off.false in
     elim c.if-next-k.branch [
-      | then-next-k w ↦ rw (w.last-is, w.next-is) (on _ _ _ (walks_on _ _ _ _ _ _ _ b w.if-next-k.true c.if-marks-k.false _ _ w.end_of-last.ensures.0 w.end_of-last.ensures.1))
+      | then-next-k w ↦ rw (w.last-is, w.next-is) (on _ _ _ (walks_on _ _ _ _ _ _ _ b w.if-next-k.true c.if-left-k.false _ _ w.end_of-last.ensures.0 w.end_of-last.ensures.1))
       | else-next-k w ↦ rw (w.last-is, w.next-is) (on _ _ _ (walks_past _ _ _ _ _ _ _ b w.if-next-k.false))
     ]
 
-pub returns-then-marks-k : goal.returns-then-marks-k
-returns-then-marks-k c = search_none _ _ _ _ _ _ _ _ _ _ _ c.loop-k.invariant c.if-marks-k.true
+pub returns-then-left-k : goal.returns-then-left-k
+returns-then-left-k c = search_none _ _ _ _ _ _ _ _ _ _ _ c.loop-k.invariant c.if-left-k.true
 
 pub returns-then-is_off : goal.returns-then-is_off
 returns-then-is_off c =
-    search_off _ _ _ _ _ _ _ _ _ _ _ c.loop-k.invariant c.if-marks-k.false _ _ c.from_u32-e.ensures.0 c.from_u16-l.ensures.0 _ c.is_off.ensures c.if-is_off.true
+    search_off _ _ _ _ _ _ _ _ _ _ _ c.loop-k.invariant c.if-left-k.false _ _ c.from-e.ensures c.from-l.ensures _ c.is_off.ensures c.if-is_off.true

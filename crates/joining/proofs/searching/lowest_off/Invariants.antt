@@ -6,14 +6,14 @@ use Rattle.joining.proofs.LowestSearched.{Searching}
 use Rattle.joining.proofs.searching.lowest_off.Given as goal
 
 abbrev pub invariant-loop-next : goal.invariant-loop-next
-invariant-loop-next l = Looking l.marks l.k l.next
+invariant-loop-next l = Looking l.left.inner.marks.now l.k l.next
 
 abbrev pub decreases-loop-next : goal.decreases-loop-next
-decreases-loop-next l = length l.marks - l.next
+decreases-loop-next l = length l.left.inner.marks.now - l.next
 
 abbrev pub invariant-loop-k : goal.invariant-loop-k
 invariant-loop-k l =
-    Searching l.h l.marks l.elapsed l.sizes l.r_marks l.r_elapsed l.r_sizes l.last.number.0 l.last.octets.0 l.next l.k
+    Searching l.left.inner.head l.left.inner.marks.now l.left.inner.elapsed.now l.left.inner.sizes.now l.right.marks.now l.right.elapsed.now l.right.sizes.now l.last.number.0 l.last.octets.0 l.next l.k
 
 abbrev pub decreases-loop-k : goal.decreases-loop-k
-decreases-loop-k l = length l.marks - l.k
+decreases-loop-k l = length l.left.inner.marks.now - l.k

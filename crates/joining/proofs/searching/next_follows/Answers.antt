@@ -2,12 +2,12 @@
 use Rattle.joining.proofs.BesideFound.{by_packet, by_closing}
 use Rattle.joining.proofs.searching.next_follows.Goals as goal
 
-pub returns-then-next-marks : goal.returns-then-next-marks
-returns-then-next-marks c =
-    let a = c.args in
-    by_packet a.h a.marks.now a.elapsed.now a.sizes.now _ _ _ _ c.requires.first_from c.if-next-marks.true _ _ c.from_u32-e.ensures.0 c.from_u16-l.ensures.0 _ c.is_fit.ensures
+pub returns-then-next-r : goal.returns-then-next-r
+returns-then-next-r c =
+    let r = c.args.r.now in
+    by_packet r.head r.marks.now r.elapsed.now r.sizes.now _ _ _ _ c.requires c.if-next-r.true _ _ c.from.ensures c.from-then-next-r.ensures _ c.is_fit.ensures
 
 pub returns : goal.returns
 returns c =
-    let a = c.args in
-    by_closing a.h a.marks.now a.elapsed.now a.sizes.now _ _ _ _ c.requires.first_from c.if-next-marks.false _ c.may_end.ensures
+    let r = c.args.r.now in
+    by_closing r.head r.marks.now r.elapsed.now r.sizes.now _ _ _ _ c.requires c.if-next-r.false _ c.may_end.ensures

@@ -5,15 +5,11 @@ use Rattle.joining.proofs.UnionWritten.{write_start, write_merged, write_end}
 use Rattle.joining.proofs.writing.write_union.Goals as goal
 
 pub loop-k-init : goal.loop-k-init
-loop-k-init c = let p = c.requires in write_start _ _ _ _ _ _ p.cases p.cases_2 p.marks_len p.either_by_bits
-
-pub loop-k-smaller : goal.loop-k-smaller
-loop-k-smaller c =
-    omega (arith, c.loop-k-test.true, c.loop-k.invariant.marks_are.long)
+loop-k-init c = let p = c.requires in write_start _ _ _ _ _ _ p.cases c.args.right.now.matched p.marks_len p.either_by_bits
 
 pub loop-k-preserved : goal.loop-k-preserved
 loop-k-preserved c =
-    write_merged _ _ _ _ _ _ _ _ _ _ c.loop-k.invariant c.loop-k-test.true _ _ _ refl refl refl
+    write_merged _ _ _ _ _ _ _ _ _ _ c.loop-k.invariant (omega (arith, c.loop-k-test.true, c.loop-k.invariant.marks_are.long)) _ _ _ refl refl refl
 
 pub shape_of-marks : goal.shape_of-marks
 shape_of-marks c = c.loop-k.invariant.marks_are.long
@@ -25,4 +21,4 @@ pub shape_of-sizes : goal.shape_of-sizes
 shape_of-sizes c = c.loop-k.invariant.sizes_are.long
 
 pub returns : goal.returns
-returns c = write_end _ _ _ _ _ _ _ _ _ _ c.loop-k.invariant c.loop-k-test.false
+returns c = write_end _ _ _ _ _ _ _ _ _ _ c.loop-k.invariant (omega (arith, c.loop-k-test.false, c.loop-k.invariant.marks_are.long))

@@ -4,7 +4,7 @@ use mathlib.Core.List.{List, [], ◌∷◌, ◌++◌, append-nil}
 use Prim.Native.Nat.{ℕ, zero, suc, ◌+◌, ◌-◌, ◌<◌, ◌≤◌}
 use native.Mathlib.Nat.{sub-zero}
 use native.Mathlib.Numerals.{add-one}
-use lib.ListN.{length, take, drop, set, length-set, take-append-drop}
+use lib.ListN.{length, take, drop, set, take-append-drop}
 use lib.Seq.{take-suc-set, drop-set-lt, append_snoc}
 use Rattle.fields.specs.Runs.{front}
 use Rattle.frame.specs.Layout.{length_at, lengths_of}
@@ -33,25 +33,16 @@ listed_all s out old n i e h =
     sym (take-append-drop n out) ∙ g ∙ rw length_listed
 
 pub loop-i-init : goal.loop-i-init
-loop-i-init c = (omega arith, refl, rw sub-zero)
-
-pub overflow_cast-out : goal.overflow_cast-out
-overflow_cast-out c = omega (arith, c.length_at.ensures.1)
+loop-i-init c = rw sub-zero
 
 pub loop-i-preserved : goal.loop-i-preserved
 loop-i-preserved c =
     let a = c.args in
-    let l = c.loop-i in (
-      omega arith,
-      length-set l.out l.i c.length_at.result ∙ l.invariant.1,
-      turn a.frame.now l.out a.n l.i c.length_at.result (omega arith) (omega arith) c.length_at.ensures.0 ∙ l.invariant.2,
-    )
-
-pub shape_of-out : goal.shape_of-out
-shape_of-out c = c.loop-i.invariant.1
+    let l = c.loop-i in
+    turn a.frame.now l.out a.n l.i c.length_at.result (omega arith) (omega arith) c.length_at.ensures.0 ∙ l.invariant
 
 pub returns : goal.returns
 returns c =
     let a = c.args in
     let l = c.loop-i in
-    listed_all a.frame.now l.out a.out.now a.n l.i (omega arith) l.invariant.2
+    listed_all a.frame.now l.out a.out.now a.n l.i (omega arith) l.invariant

@@ -1,11 +1,8 @@
 -- `reader::lengths::sum_lengths` meets its contract: the sum of the first i lengths. Assumes nothing.
 use mathlib.Core.Path.{◌≡◌}
-use Prim.Native.Nat.{◌-◌, ◌*◌, ◌≤◌}
+use Prim.Native.Nat.{◌*◌, ◌≤◌}
 use Rattle.frame.specs.Layout.{sum_lengths}
 use Rattle.reader.proofs.lengths.sum_lengths.Given as goal
 
 abbrev pub invariant-loop-i : goal.invariant-loop-i
-invariant-loop-i l = (l.i ≤ l.n) × (l.sum ≡ sum_lengths l.frame l.i) × (l.sum ≤ 4095 * l.i)
-
-abbrev pub decreases-loop-i : goal.decreases-loop-i
-decreases-loop-i l = l.n - l.i
+invariant-loop-i l = (l.sum ≡ sum_lengths l.frame l.i) × (l.sum ≤ 4095 * l.i)

@@ -5,25 +5,25 @@ use Rattle.reporting.proofs.CountedReport.{sound}
 use Rattle.reporting.proofs.GapsLeft.{back, up, last_back, last_up}
 use Rattle.reporting.proofs.GapsWritten.{writing_start, room_here, heard_on, unheard_on, last_room, all_missing, all_written}
 use Rattle.reporting.proofs.writing.write_gaps.Goals as goal
-use Rattle.reporting.proofs.writing.write_gaps.Goals.{then-marks-k-eq1, else-marks-k-eq1}
+use Rattle.reporting.proofs.writing.write_gaps.Goals.{then-r-k-eq1, else-r-k-eq1}
 
 pub loop-k-init : goal.loop-k-init
 loop-k-init c =
     let p = c.requires in
-    writing_start _ _ _ _ _ (undamaged_sent _ _ (sound c.args.h _ _ _ p.cases p.sizes_value)) p.cases.room p.n_value p.room
+    writing_start _ _ _ _ _ (undamaged_sent _ _ (sound c.args.r.now.head _ _ _ c.args.r.now.matched p.undamaged)) c.args.r.now.matched.room p.n_value p.room
 
 pub put-t-requires : goal.put-t-requires
 put-t-requires c =
-    let g = c.loop-k.invariant in record { i_le_k = (back _ _ _ _ _ g.going, up _ _ _ _ _ g.going c.loop-k-test.true c.if-marks-k-eq1.true _ _ c.from_u32-e.ensures.0 c.from_u16-l.ensures.0); packets_le_i = (g.missing.packets_few, g.missing.octets_few); room = room_here _ _ _ _ _ _ _ _ _ _ _ _ g c.loop-k-test.true c.if-marks-k-eq1.true _ _ c.from_u32-e.ensures.0 c.from_u16-l.ensures.0 }
+    let g = c.loop-k.invariant in record { i_le_k = (back _ _ _ _ _ g.going, up _ _ _ _ _ g.going c.loop-k-test.true c.if-r-k-eq1.true _ _ c.from-e.ensures c.from-l.ensures); packets_le_i = (g.missing.packets_few, g.missing.octets_few); room = room_here _ _ _ _ _ _ _ _ _ _ _ _ g c.loop-k-test.true c.if-r-k-eq1.true _ _ c.from-e.ensures c.from-l.ensures }
 
 pub loop-k-preserved : goal.loop-k-preserved
 loop-k-preserved c =
-    elim c.if-marks-k-eq1.branch [
-      | then-marks-k-eq1 w ↦ rw (w.firsts-is, w.counts-is, w.octets-is, w.i-is, w.a-is, w.t-is) (
-          heard_on _ _ _ _ _ _ _ _ _ _ _ _ c.loop-k.invariant c.loop-k-test.true w.if-marks-k-eq1.true _ _ w.from_u32-e.ensures.0 w.from_u16-l.ensures.0 _ _ _ _ w.put-t.ensures.puts w.put-t.ensures.packets_le_k
+    elim c.if-r-k-eq1.branch [
+      | then-r-k-eq1 w ↦ rw (w.firsts-is, w.counts-is, w.octets-is, w.i-is, w.a-is, w.t-is) (
+          heard_on _ _ _ _ _ _ _ _ _ _ _ _ c.loop-k.invariant c.loop-k-test.true w.if-r-k-eq1.true _ _ w.from-e.ensures w.from-l.ensures _ _ _ _ w.put-t.ensures.puts w.put-t.ensures.packets_le_k
           )
-      | else-marks-k-eq1 w ↦
-          rw (w.firsts-is, w.counts-is, w.octets-is, w.i-is, w.a-is, w.t-is) (unheard_on _ _ _ _ _ _ _ _ _ _ _ _ c.loop-k.invariant c.loop-k-test.true w.if-marks-k-eq1.false)
+      | else-r-k-eq1 w ↦
+          rw (w.firsts-is, w.counts-is, w.octets-is, w.i-is, w.a-is, w.t-is) (unheard_on _ _ _ _ _ _ _ _ _ _ _ _ c.loop-k.invariant c.loop-k-test.true w.if-r-k-eq1.false)
     ]
 
 pub put-requires : goal.put-requires

@@ -6,5 +6,5 @@ use Rattle.second_frames.proofs.again.write_again.Goals as goal
 
 pub write_data_again-requires : goal.write_data_again-requires
 write_data_again-requires c =
-    let d = data_said _ _ (sym (read_known c.read_frame-read.result _ c.read_frame-read.ensures) ∙ c.in-Data.is) in
+    let d = data_said _ _ (sym (read_known c.read_frame.result _ c.read_frame.ensures) ∙ c.in-Data.is) in
     d.least

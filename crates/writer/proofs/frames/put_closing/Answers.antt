@@ -1,9 +1,8 @@
 -- `writer::frames::put_closing` meets its contract. Assumes nothing.
-use mathlib.Core.Path.{◌≡◌, refl, sym, ap, ◌∙◌}
+use mathlib.Core.Path.{◌≡◌, refl, ap, ◌∙◌}
 use Prim.Native.Nat.{◌*◌, ◌%◌}
 use native.Mathlib.Omega.{arith}
-use lib.ListN.{take, length-set}
-use lib.Seq.{length-take-le}
+use lib.ListN.{take}
 use Rattle.fields.specs.Numbers.{octets}
 use Rattle.fields.proofs.Laying.{laid_on, stored, take_front}
 use Rattle.checks.specs.Check.{header_check}
@@ -11,12 +10,6 @@ use Rattle.checks.proofs.Rows.{check_lt}
 use Rattle.checks.proofs.ShortSums.{header}
 use Rattle.frame.specs.Writing.{closing_control, closing_frame}
 use Rattle.writer.proofs.frames.put_closing.Goals as goal
-
-pub slice_bounds-header_check-end-2 : goal.slice_bounds-header_check-end-2
-slice_bounds-header_check-end-2 c = sym (length-take-le 17 c.put_closing_control.new.out (omega arith))
-
-pub shape_of-out : goal.shape_of-out
-shape_of-out c = simp length-set (omega arith)
 
 pub returns : goal.returns
 unfolding octets closing_frame

@@ -13,9 +13,6 @@ use Rattle.frame.proofs.Fitting.{length_packed}
 use Rattle.writer.proofs.Sealing.{ten_bits, sealing}
 use Rattle.writer.proofs.frames.put_with_lengths.Goals as goal
 
-pub put_lengths-requires : goal.put_lengths-requires
-put_lengths-requires c = c.requires
-
 pub put_checks-requires : goal.put_checks-requires
 put_checks-requires c = (ten_bits _ c.payload_check-check.ensures, search rules)
 

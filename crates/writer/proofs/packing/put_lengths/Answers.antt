@@ -1,96 +1,77 @@
 -- `writer::packing::put_lengths` meets its contract: what is left, laid from here, is all, laid from the start. Assumes nothing.
-use borrow.Author.Rules.{rules}
 use mathlib.Core.Path.{◌≡◌, refl, sym, ◌∙◌}
 use mathlib.Core.List.{List, [], ◌∷◌}
 use mathlib.Core.Bool.{false}
-use Prim.Native.Nat.{ℕ, suc, ◌+◌, ◌*◌, ◌<◌, ◌≤◌}
+use Prim.Native.Nat.{ℕ, ◌+◌, ◌-◌, ◌*◌, ◌<◌, ◌≤◌}
 use native.Mathlib.Omega.{arith}
-use native.Mathlib.Numerals.{add-one, add-two}
-use lib.ListN.{length, drop, get_or, drop_of_length-le}
-use lib.Seq.{drop-cons}
+use lib.ListN.{length, take, drop, get_or, length-drop}
 use Rattle.fields.specs.Numbers.{octets}
-use Rattle.fields.proofs.Laying.{laid_then, laid_none}
+use Rattle.fields.proofs.Laying.{laid_then, laid_none, to_end}
 use Rattle.frame.specs.Counts.{any_above}
+use Rattle.frame.specs.Layout.{filled}
 use Rattle.frame.specs.Writing.{packed}
 use Rattle.frame.proofs.Fitting.{above_head}
 use Rattle.writer.proofs.packing.put_lengths.Goals as goal
 
--- the two lengths that a turn takes, in front of the rest
-two : (ls : List ℕ) (i : ℕ) → i + 1 < length ls → drop i ls ≡ get_or ls i 0 ∷ get_or ls (i + 1) 0 ∷ drop (i + 2) ls
-two ls i h =
-    let g : suc i < length ls = omega arith in
-    drop-cons ls i 0 (omega arith) ∙ rw (drop-cons ls (suc i) 0 g, add-one, add-two)
+-- what follows two lengths
+abbrev more : List ℕ → List ℕ
+more ls = take (length ls - 2) (drop 2 ls)
 
--- neither they nor the rest are above
-short : (ls : List ℕ) (i : ℕ) → i + 1 < length ls → any_above (drop i ls) ≡ false
-    → (get_or ls i 0 ≤ 4095) × (get_or ls (i + 1) 0 ≤ 4095) × (any_above (drop (i + 2) ls) ≡ false)
-short ls i h w =
-    let a = get_or ls i 0 in
-    let b = get_or ls (i + 1) 0 in
-    let rest = drop (i + 2) ls in
-    let p = above_head a (b ∷ rest) (rw (two ls i h) at w) in
-    let q = above_head b rest p.1 in
+two : (ls : List ℕ) → 2 ≤ length ls → ls ≡ get_or ls 0 0 ∷ get_or ls 1 0 ∷ more ls
+two [] h = absurd (omega arith)
+two (a ∷ []) h = absurd (omega arith)
+two (a ∷ b ∷ ls) h = rw (to_end 2 (a ∷ b ∷ ls))
+
+one : (ls : List ℕ) → 1 ≤ length ls → length ls < 2 → ls ≡ get_or ls 0 0 ∷ []
+one [] h l = absurd (omega arith)
+one (a ∷ []) h l = refl
+one (a ∷ b ∷ ls) h l = absurd (omega arith)
+
+none : (ls : List ℕ) → length ls < 1 → ls ≡ []
+none [] l = refl
+none (a ∷ ls) l = absurd (omega arith)
+
+-- neither of two lengths, nor what follows them, is above
+short : (ls : List ℕ) → 2 ≤ length ls → any_above ls ≡ false
+    → (get_or ls 0 0 ≤ 4095) × (get_or ls 1 0 ≤ 4095) × (any_above (more ls) ≡ false)
+short ls h w =
+    let p = above_head (get_or ls 0 0) (get_or ls 1 0 ∷ more ls) (rw (two ls h) at w) in
+    let q = above_head (get_or ls 1 0) (more ls) p.1 in
     (p.0, q.0, q.1)
-
--- the last length alone
-one : (ls : List ℕ) (i : ℕ) → i < length ls → length ls ≤ i + 1 → drop i ls ≡ get_or ls i 0 ∷ []
-one ls i h l =
-    let n : drop (i + 1) ls ≡ [] = drop_of_length-le ls l in
-    drop-cons ls i 0 h ∙ rw (← (add-one i), n)
-
-pub loop-i-init : goal.loop-i-init
-loop-i-init c = (search rules, refl, omega arith, c.requires.short, refl)
 
 pub put_two-requires : goal.put_two-requires
 put_two-requires c =
-    let ls = c.args.lengths.now in
-    let l = c.loop-i in
-    let s = short ls l.i (omega arith) l.invariant.3 in
+    let s = short _ c.in-len2-up.len_at_least c.loop-rest.invariant.1 in
     (s.0, s.1, omega arith)
 
-pub loop-i-preserved : goal.loop-i-preserved
-unfolding packed octets
-loop-i-preserved c =
-    let put = c.put_two in
-    let l = c.loop-i in
-    let ls = c.args.lengths.now in
-    let h : l.i + 1 < length ls = omega arith in
-    let v = get_or ls l.i 0 * 4096 + get_or ls (l.i + 1) 0 in
-    let r = packed (drop (l.i + 2) ls) in (
-      omega arith,
-      put.auto.out ∙ l.invariant.1,
-      omega (arith, put.auto.out),
-      (short ls l.i h l.invariant.3).2,
-      laid_then l.out (octets 3 v) r l.at (omega arith) put.ensures ∙ (rw (two ls l.i h) at l.invariant.4),
+pub loop-rest-preserved : goal.loop-rest-preserved
+unfolding octets packed
+loop-rest-preserved c =
+    let l = c.loop-rest in
+    let ls = l.rest.now in
+    let h = c.in-len2-up.len_at_least in
+    let v = get_or ls 0 0 * 4096 + get_or ls 1 0 in
+    let room : l.at + 3 + filled (length (more ls)) ≤ length c.put_two.new.out = simp (to_end 2 ls, length-drop) (omega (arith, c.put_two.auto.out)) in (
+      room,
+      (short ls h l.invariant.1).2,
+      laid_then l.out (octets 3 v) (packed (more ls)) l.at (omega arith) c.put_two.ensures ∙ (rw (two ls h) at l.invariant.2),
     )
 
 pub put_one-requires : goal.put_one-requires
 put_one-requires c =
-    let l = c.loop-i in
-    let ls = c.args.lengths.now in
-    let e = one ls l.i (omega arith) (omega arith) in
-    ((above_head _ [] (rw e at l.invariant.3)).0, omega arith)
+    let ls = c.loop-rest.rest.now in
+    let e = one ls c.in-len1-up.len_at_least c.in_default.len_below in
+    ((above_head _ [] (rw e at c.loop-rest.invariant.1)).0, omega arith)
 
-pub shape_of-out-then-i-lengths : goal.shape_of-out-then-i-lengths
-shape_of-out-then-i-lengths c =
-    c.put_one.auto.out ∙ c.loop-i.invariant.1
-
-pub returns-then-i-lengths : goal.returns-then-i-lengths
+pub returns-in-empty : goal.returns-in-empty
 unfolding packed
-returns-then-i-lengths c =
-    let l = c.loop-i in
-    let ls = c.args.lengths.now in
-    let e = one ls l.i (omega arith) (omega arith) in
-    c.put_one.ensures ∙ (rw e at l.invariant.4)
+returns-in-empty c =
+    let l = c.loop-rest in
+    let e = none l.rest.now (omega arith) in
+    sym (laid_none l.out l.at) ∙ (rw e at l.invariant.2)
 
-pub shape_of-out-else-i-lengths : goal.shape_of-out-else-i-lengths
-shape_of-out-else-i-lengths c = c.loop-i.invariant.1
-
-pub returns-else-i-lengths : goal.returns-else-i-lengths
+pub returns-in-len1-up : goal.returns-in-len1-up
 unfolding packed
-returns-else-i-lengths c =
-    let ls = c.args.lengths.now in
-    let l = c.loop-i in
-    let h : length ls ≤ l.i = omega arith in
-    let e : drop l.i ls ≡ [] = drop_of_length-le ls h in
-    sym (laid_none l.out l.at) ∙ (rw e at l.invariant.4)
+returns-in-len1-up c =
+    let l = c.loop-rest in
+    c.put_one.ensures ∙ (rw (one l.rest.now c.in-len1-up.len_at_least c.in_default.len_below) at l.invariant.2)

@@ -1,9 +1,0 @@
--- `hearing::looking::end_below` meets its contract. Assumes nothing.
-use Rattle.hearing.proofs.NeighboursFound.{Down}
-use Rattle.hearing.proofs.looking.end_below.Given as goal
-
-abbrev pub invariant-loop-j : goal.invariant-loop-j
-invariant-loop-j l = Down l.first l.marks l.elapsed l.sizes l.k l.j
-
-abbrev pub decreases-loop-j : goal.decreases-loop-j
-decreases-loop-j l = l.j
