@@ -59,5 +59,6 @@ module _ (b : Between) (have : ℕ) (old : List ℕ) (f : Fed) (mid : List ℕ) 
           full = λ e. rw (read_behind have old f mid r, mid_long, same) (r.full e);
           over = λ e. rw (read_behind have old f mid r, mid_long, same) (r.over e);
           at_in = rw back to.inside;
+          unbegun = p.unbegun;
           turns = record { ready = p.ready; within = omega (arith, i, same) };
         }

@@ -2,11 +2,8 @@
 use Prim.Native.Nat.{ℕ}
 use mathlib.Core.Path.{◌≡◌, refl, ap, ◌∙◌}
 use mathlib.Core.List.{List}
-use native.Mathlib.Omega.{arith}
 use lib.ListN.{length, replicate, length-replicate}
 use Rattle.std.specs.Prelude.{None}
-use Rattle.reception.specs.Hearing.{open_head}
-use Rattle.hearing.proofs.EmptyRecord.{empty_undamaged, empty_before, empty_from}
 use Rattle.printout.specs.declared.Going.{Going}
 use Rattle.printout.specs.Printed.{nothing_yet}
 use Rattle.printout.specs.Stepping.{between_in, Ready}
@@ -20,10 +17,7 @@ started marks elapsed sizes place offset m e z =
       marks_long = ap length m ∙ length-replicate {A = ℕ} 4096 0;
       elapsed_long = ap length e ∙ length-replicate {A = ℕ} 4096 0;
       sizes_long = ap length z ∙ length-replicate {A = ℕ} 4096 0;
-      undamaged = empty_undamaged 0 0 0 4096 (omega arith) (omega arith) (open_head 0 0 0) marks elapsed sizes refl m e z;
-      before = empty_before 0 0 0 4096 (omega arith) (omega arith) (open_head 0 0 0) marks elapsed sizes refl m e z 4096;
-      from_end = empty_from 0 0 0 4096 (omega arith) (omega arith) (open_head 0 0 0) marks elapsed sizes refl m e z;
-      fresh = λ n. (m, e, z);
+      heard = tt;
     }
 
 pub record Loop (marks₀ elapsed₀ sizes₀ input₀ out₀ marks elapsed sizes input out : List ℕ) (g : Going) (have : ℕ) : Type 0 where

@@ -1,7 +1,7 @@
 -- The turns of the program, one behind the other, tell the program's text of all that the reader gives. Assumes nothing.
 use Rattle.std.proofs.Common.{◌≡◌, ℕ, true, false, cond, List, [], ◌++◌, take, refl, sym, ap, subst, ◌∙◌, append_assoc, append-nil}
 use Rattle.std.proofs.lemmas.Bool.{false≢true}
-use Rattle.std.specs.Prelude.{Option, Some, None}
+use Rattle.std.specs.Prelude.{Option, Some, None, Result, Ok, Err, IsOk, OnOk}
 use Rattle.std.specs.Io.KnownBytes.{Appends, Consumes, IsAtEnd}
 use Rattle.std.proofs.KnownBytes.{Appends-nil, Appends-trans}
 use Rattle.feeding.specs.declared.End.{End}
@@ -10,6 +10,8 @@ use Rattle.feeding.specs.Feeding.{is_over}
 use Rattle.printout.specs.Printed.{Between, nothing_yet, text_from, program_text}
 use Rattle.printout.specs.Stepping.{between_in}
 use Rattle.account.specs.declared.Done.{Done}
+use Rattle.account.specs.declared.Ran.{Ran}
+use Rattle.account.specs.declared.Ran.TheVariants.{Whole, Front}
 use Rattle.account.specs.Turning.{Turned, TellsAll, TellsFront}
 
 -- of xs these octets are still to be read, and what is printed is the text of all that was passed
@@ -94,6 +96,16 @@ all_told b pending left left' r marks elapsed sizes input out t None before afte
 all_told b pending left left' r marks elapsed sizes input out t (Some xs) before after after' s wrote o =
     let text = rw o at (told b pending left left' r marks elapsed sizes input out t (Some xs) before after after' s wrote xs refl) in
     subst (Appends before after') (sym (text ∙ append-nil _)) (appended b pending left left' r marks elapsed sizes input out t (Some xs) before after after' s wrote)
+
+-- what holds of a write that did not fail
+pub written : {T E : Type 0} (r : Result T E) {P : Type 0} → IsOk r → OnOk r P → P
+written (Ok x) ok p = p
+written (Err e) ok p = absurd (false≢true ok)
+
+-- what came of a run, whichever it is, says that the write did not fail
+pub did_write : {T E X Y : Type 0} (answer : Result T E) (r : Result Ran E) (ran : Ran) → r ≡ Ok ran → (r ≡ Ok Whole → X × IsOk answer) → (r ≡ Ok Front → Y × IsOk answer) → IsOk answer
+did_write answer r Whole e w f = (w e).1
+did_write answer r Front e w f = (f e).1
 
 -- where it stops before the end, the front is told
 pub front_told : (given before : Option (List ℕ)) (b : Between) (pending : List ℕ) (left after : Option (List ℕ)) → SoFar given before b pending left after

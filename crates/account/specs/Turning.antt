@@ -1,5 +1,5 @@
 -- What is kept from one read to the next, and what is told at each. Assumes nothing.
-use Rattle.std.specs.Prelude.{ℕ, ◌≤◌, ◌<◌, ◌≡◌, Option, IfSome, List, ◌++◌, length, take}
+use Rattle.std.specs.Prelude.{ℕ, ◌≤◌, ◌<◌, ◌≡◌, false, Option, IfSome, is_some, List, ◌++◌, length, take}
 use Rattle.std.specs.Io.KnownBytes.{Appends, Consumes, IsAtEnd}
 use Rattle.feeding.specs.declared.End.TheVariants.{Full, Over}
 use Rattle.feeding.specs.Feeding.{is_over}
@@ -16,7 +16,7 @@ pub record Turns (g : Going) (marks elapsed sizes input : List ℕ) (have : ℕ)
 
 -- of what was pending and what was got the text in memory is told, and the rest is pending. Unless a read failed, the input has ended
 -- exactly where they do not fill the buffer. What was got is what the reader gave, and where the input has ended the reader has nothing
--- left
+-- left. Where no sequence was begun by then, the record is as it was
 pub record Turned (b : Between) (pending : List ℕ) (before after : Option (List ℕ)) (r : Done) (marks elapsed sizes input out : List ℕ) : Type 0 where
   pub got : List ℕ
   pub bytes : Consumes before after got
@@ -25,6 +25,7 @@ pub record Turned (b : Between) (pending : List ℕ) (before after : Option (Lis
   pub full : r.end ≡ Full → length (pending ++ got) ≡ length input
   pub over : r.end ≡ Over → length (pending ++ got) < length input
   pub at_in : r.at ≤ length out
+  pub unbegun : is_some r.going.begun ≡ false → between_in r.going marks elapsed sizes ≡ b
   pub turns : Turns r.going marks elapsed sizes input r.have
 
 -- of all that the reader gives, where it is known, the program's text was written

@@ -3,13 +3,14 @@
 
 mod failures;
 
-ghost use Rattle.std.specs.Prelude.{◌≡◌, length, take};
+ghost use Rattle.std.specs.Prelude.{◌≡◌, true, false, length, take, IsOk};
+ghost use Rattle.std.specs.declared.io.Error.{Error};
 ghost use Rattle.printout.specs.Stepping.{between_in};
 ghost use Rattle.account.specs.declared.Ran.TheVariants.{Whole, Front};
 ghost use Rattle.account.specs.Turning.{TellsAll, TellsFront, Turned, Turns};
 
 use failures::{tell_read_failed, tell_usage, tell_write_failed};
-use feeding::{End, move_down, read_on};
+use feeding::{End, large_buffer, move_down, read_on};
 use hearing::taking::clear;
 use lines::Text;
 use passing::pass;
@@ -78,6 +79,19 @@ enum Ran {
     Front,
 }
 
+// What came of the run with this turn, whose text was written or could not be.
+fn ran_by(over: bool, told: io::Result<()>) -> io::Result<Ran>
+    ensures whole { result ≡ Ok Whole → (over ≡ true) × IsOk told }
+    ensures front { result ≡ Ok Front → (over ≡ false) × IsOk told }
+    ensures unwritten { (error : Error) → result ≡ Err error → told ≡ Err error }
+{
+    told?;
+    if over {
+        return Ok(Ran::Whole);
+    }
+    Ok(Ran::Front)
+}
+
 // A failed read is told at once, before what was read so far is printed.
 fn tell_cut(to: &impl Eprint, end: End) {
     if let End::Failed(error) = end {
@@ -110,12 +124,9 @@ fn run<R: Read, W: Write>(
     for _ in 0..u64::MAX {
         let t = turn(from, rt, going, marks, elapsed, sizes, input, have, out);
         tell_cut(rt, t.end);
-        to.write_all(&out[..t.at])?;
-        if t.over {
-            return Ok(Ran::Whole);
-        }
-        if let End::Failed(_) = t.end {
-            break;
+        let ran = ran_by(t.over, to.write_all(&out[..t.at]))?;
+        if t.over || matches!(t.end, End::Failed(_)) {
+            return Ok(ran);
         }
         going = t.going;
         have = t.have;
@@ -145,7 +156,7 @@ fn print_accounts<R: Read, W: Write>(
         &mut [0; PLACES],
         &mut [0; PLACES],
         &mut [0; PLACES],
-        &mut [0; 65536],
+        &mut large_buffer(),
         &mut text_buffer(),
     )
 }

@@ -1,6 +1,4 @@
 // Each call of the sender, by value and in place, on memories that hold the same.
-ghost use Rattle.std.specs.Prelude.{◌≤◌};
-
 use crate::alike::{Both, Gave};
 use crate::lent;
 use sender::{Called, Sender};
@@ -19,47 +17,38 @@ impl<P: Print> Both<'_, P> {
         self.compare(name, Gave::from(first), Gave::from(second), b"", b"")
     }
 
-    // A call that writes a frame, with room of so many octets.
-    fn frame<const N: usize, F, G>(
-        &mut self,
-        name: &str,
-        by_value: F,
-        in_place: G,
-    ) -> io::Result<()>
+    // A call that writes a frame, with room of so many octets, 64 at most.
+    fn frame<F, G>(&mut self, name: &str, room: usize, by_value: F, in_place: G) -> io::Result<()>
     where
         F: FnOnce(Sender, &mut [u8]) -> Called<usize>,
         G: FnOnce(Sender, &mut [u8]) -> Called<usize>,
-        requires room { N ≤ 64 }
-        requires calls { F.IsAlwaysCallable by_value × G.IsAlwaysCallable in_place }
+        requires { F.IsAlwaysCallable by_value × G.IsAlwaysCallable in_place }
     {
-        let mut a = [238u8; N];
-        let mut b = [238u8; N];
-        let first = by_value(self.by_value, &mut a);
-        let second = in_place(self.in_place, &mut b);
+        let mut a = [238u8; 64];
+        let mut b = [238u8; 64];
+        let end = room.min(64);
+        let first = by_value(self.by_value, &mut a[..end]);
+        let second = in_place(self.in_place, &mut b[..end]);
         self.compare(name, Gave::from(first), Gave::from(second), &a, &b)
     }
 
-    pub fn data<const N: usize>(&mut self, name: &str, payload: &[u8]) -> io::Result<()>
-        requires { N ≤ 64 }
-    {
-        self.frame::<N, _, _>(
+    pub fn data(&mut self, name: &str, payload: &[u8], room: usize) -> io::Result<()> {
+        self.frame(
             name,
+            room,
             |s, out| sender::sent(s, payload, out),
             |s, out| lent::data(s, payload, out),
         )
     }
 
-    pub fn close<const N: usize>(&mut self, name: &str) -> io::Result<()>
-        requires { N ≤ 64 }
-    {
-        self.frame::<N, _, _>(name, sender::closed, lent::close)
+    pub fn close(&mut self, name: &str, room: usize) -> io::Result<()> {
+        self.frame(name, room, sender::closed, lent::close)
     }
 
-    pub fn close_with<const N: usize>(&mut self, name: &str, lengths: &[u16]) -> io::Result<()>
-        requires { N ≤ 64 }
-    {
-        self.frame::<N, _, _>(
+    pub fn close_with(&mut self, name: &str, lengths: &[u16], room: usize) -> io::Result<()> {
+        self.frame(
             name,
+            room,
             |s, out| sender::closed_with_lengths(s, lengths, out),
             |s, out| lent::close_with_lengths(s, lengths, out),
         )

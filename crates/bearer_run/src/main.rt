@@ -12,8 +12,8 @@ use units::{Octets, Packets};
 
 // What is out of turn before a sequence and in it.
 fn out_of_turn(both: &mut Both<impl Print>) -> io::Result<()> {
-    both.data::<64>("data before open", b"abc")?;
-    both.close::<64>("close before open")?;
+    both.data("data before open", b"abc", 64)?;
+    both.close("close before open", 64)?;
     both.open("open 60000", 60000)?;
     both.open("open 100", 100)?;
     both.open("open again", 101)?;
@@ -22,42 +22,42 @@ fn out_of_turn(both: &mut Both<impl Print>) -> io::Result<()> {
 
 // Frames of the sequence, among them one that has no room and one that is too long.
 fn frames(both: &mut Both<impl Print>) -> io::Result<()> {
-    both.data::<64>("data abc", b"abc")?;
-    both.data::<64>("data none", b"")?;
-    both.data::<13>("data hello, no room", b"hello")?;
-    both.data::<64>("data of 4096", &[7; 4096])?;
-    both.data::<64>("data hello", b"hello")
+    both.data("data abc", b"abc", 64)?;
+    both.data("data none", b"", 64)?;
+    both.data("data hello, no room", b"hello", 13)?;
+    both.data("data of 4096", &[7; 4096], 64)?;
+    both.data("data hello", b"hello", 64)
 }
 
 // The sequence is closed by a Type 0 frame, and the next one has a later stamp.
 fn closed_plainly(both: &mut Both<impl Print>) -> io::Result<()> {
-    both.close::<17>("close, no room")?;
-    both.close::<64>("close")?;
+    both.close("close, no room", 17)?;
+    both.close("close", 64)?;
     both.open("open 100", 100)?;
     both.open("open 101", 101)?;
-    both.data::<64>("data x", b"x")?;
-    both.data::<64>("data yz", b"yz")
+    both.data("data x", b"x", 64)?;
+    both.data("data yz", b"yz", 64)
 }
 
 // The sequence is closed with its lengths.
 fn closed_with_lengths(both: &mut Both<impl Print>) -> io::Result<()> {
-    both.close_with::<64>("close with lengths 1 1", &[1, 1])?;
-    both.close_with::<21>("close with lengths 1 2, no room", &[1, 2])?;
-    both.close_with::<64>("close with lengths 1 2", &[1, 2])?;
-    both.close_with::<64>("close with lengths again", &[1, 2])
+    both.close_with("close with lengths 1 1", &[1, 1], 64)?;
+    both.close_with("close with lengths 1 2, no room", &[1, 2], 21)?;
+    both.close_with("close with lengths 1 2", &[1, 2], 64)?;
+    both.close_with("close with lengths again", &[1, 2], 64)
 }
 
 // The next period, with a sequence that has no data.
 fn next_period(both: &mut Both<impl Print>) -> io::Result<()> {
     both.new_period("new period")?;
     both.open("open 0", 0)?;
-    both.close::<64>("close without data")
+    both.close("close without data", 64)
 }
 
 fn damaged(both: &mut Both<impl Print>) -> io::Result<()> {
     both.open("open damaged", 6)?;
-    both.data::<64>("data damaged", b"abc")?;
-    both.close::<64>("close damaged")?;
+    both.data("data damaged", b"abc", 64)?;
+    both.close("close damaged", 64)?;
     both.new_period("new period damaged")
 }
 

@@ -1,5 +1,5 @@
 -- Octets read behind octets that were read. Assumes nothing.
-use Rattle.std.proofs.Common.{◌≡◌, ℕ, ◌+◌, ◌≤◌, List, [], ◌++◌, length, take, drop, sym, ap, subst, ◌∙◌, arith, length-append, length-take-le, drop_at, take-append-drop}
+use Rattle.std.proofs.Common.{◌≡◌, ℕ, ◌+◌, ◌≤◌, List, [], ◌++◌, length, take, drop, refl, sym, ap, subst, ◌∙◌, arith, length-append, length-take-le, drop_at, take-append-drop}
 use Rattle.std.proofs.Math.Seq.{take-take, take-append-le, drop-append-le}
 use Rattle.std.proofs.lemmas.List.{drop-take}
 use Rattle.std.proofs.lemmas.Slice.{take-put_mid_below}
@@ -11,8 +11,12 @@ use Rattle.std.proofs.KnownBytes.{Consumes-nil, Consumes-kept, Consumes-trans}
 use borrow.Rule.Slice.PartMut.{put_mid, post_of}
 use Rattle.feeding.specs.Feeding.{Behind}
 
+-- nothing was read yet
+pub none_read : (have : ℕ) (s : List ℕ) → have ≤ length s → Behind have s have s
+none_read have s h = record { more = omega arith; within = h; kept = refl }
+
 -- what was there before the first read is kept by the next one too
-read_twice : (have : ℕ) (old : List ℕ) (m : ℕ) (mid : List ℕ) (n : ℕ) (new : List ℕ) → Behind have old m mid → Behind m mid n new → Behind have old n new
+pub read_twice : (have : ℕ) (old : List ℕ) (m : ℕ) (mid : List ℕ) (n : ℕ) (new : List ℕ) → Behind have old m mid → Behind m mid n new → Behind have old n new
 read_twice have old m mid n new p q =
     let i = p.more in
     let j = q.more in
@@ -22,8 +26,12 @@ read_twice have old m mid n new p q =
       kept = sym (take-take have m new i) ∙ ap (take have) q.kept ∙ take-take have m mid i ∙ p.kept;
     }
 
+-- told by another name of its number
+pub same_behind : (have : ℕ) (old : List ℕ) (m n : ℕ) (new : List ℕ) → n ≡ m → Behind have old m new → Behind have old n new
+same_behind have old m n new e b = rw e b
+
 -- one read into the part behind the front; where it failed, nothing was given
-read_bytes : {E : Type 0} (a b : Option (List ℕ)) (r : Result ℕ E) (have : ℕ) (front part rest : List ℕ) → length front ≡ have
+pub read_bytes : {E : Type 0} (a b : Option (List ℕ)) (r : Result ℕ E) (have : ℕ) (front part rest : List ℕ) → length front ≡ have
     → ReadsAtMost r part → ReadConsumes a b r part → Consumes a b (drop have (take (have + result_unwrap_or r 0) (front ++ (part ++ rest))))
 read_bytes a b (Ok n) have front part rest long fits read =
     subst (Consumes a b) (sym (drop-take have n (front ++ (part ++ rest))))
@@ -32,7 +40,7 @@ read_bytes a b (Err e) have front part rest long fits read =
     subst (Consumes a b) (sym (drop-take have 0 (front ++ (part ++ rest)))) (Consumes-kept a a b [] (Consumes-nil a) read)
 
 -- reads behind reads: xs has m octets of which the first have were there before, and ys has n of which the first m stayed
-more_read : (a b c : Option (List ℕ)) (have m n : ℕ) (xs ys : List ℕ) → have ≤ m → m ≤ n → m ≤ length xs → take m ys ≡ take m xs
+pub more_read : (a b c : Option (List ℕ)) (have m n : ℕ) (xs ys : List ℕ) → have ≤ m → m ≤ n → m ≤ length xs → take m ys ≡ take m xs
     → Consumes a b (drop have (take m xs)) → Consumes b c (drop m (take n ys)) → Consumes a c (drop have (take n ys))
 more_read a b c have m n xs ys h mn within kept p q =
     let later = drop m (take n ys) in

@@ -88,6 +88,13 @@ pub fn read_on<R: Read>(from: &mut R, clock: &impl Clock, input: &mut [u8], have
     }
 }
 
+// 65,536 zeros, for a program that reads much at once. The `ensures` gives only the length, which lending the array as a slice needs.
+pub fn large_buffer() -> [u8; 65536]
+    ensures { 65536 ≡ length result }
+{
+    [0; 65536]
+}
+
 // Moves so many octets from a place on to the front.
 pub fn move_down(input: &mut [u8], from: usize, count: usize)
     requires { from + count ≤ length input.old }

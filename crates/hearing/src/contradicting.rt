@@ -3,7 +3,7 @@ ghost use Rattle.std.specs.Prelude.{◌≡◌, ◌<◌, length};
 ghost use Rattle.reception.specs.Lent.{held};
 ghost use Rattle.reception.specs.Adding.{differ, packet_contradicts, closed_head, closing_contradicts};
 
-use crate::looking::Heard;
+use crate::looking::{Heard, end_below, next_fits};
 use damage::{is_fit, may_end};
 use reception::Head;
 use units::{Octets, Packets};
@@ -35,9 +35,15 @@ pub fn packet_contradicts(r: &Heard, k: usize, e: u64, l: u64) -> bool
             l,
         );
     }
-    let b = r.end_below(k);
+    let b = end_below(&r.inner, r.span.first, k);
     !is_fit(b.number, b.octets, Packets(k as u32), Octets(e), Octets(l))
-        || !r.next_fits(k + 1, Packets(k as u32 + 1), Octets(e + l))
+        || !next_fits(
+            &r.inner,
+            r.span.end,
+            k + 1,
+            Packets(k as u32 + 1),
+            Octets(e + l),
+        )
 }
 
 // The head with a closing of n packets and t octets.
@@ -60,6 +66,6 @@ pub fn closing_contradicts(r: &Heard, n: Packets, t: Octets) -> bool
     if h.closed {
         return differs(u64::from(h.count.0), h.total.0, u64::from(n.0), t.0);
     }
-    let b = r.end_below(r.span.end);
+    let b = end_below(&r.inner, r.span.first, r.span.end);
     !may_end(with_closing(h, n, t), b.number, b.octets)
 }

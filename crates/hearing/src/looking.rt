@@ -27,40 +27,39 @@ pub struct End {
     pub octets: Octets,
 }
 
-impl Heard<'_> {
-    // The end of the last packet heard below k.
-    pub fn end_below(&self, k: usize) -> End
-        requires { k ≤ length self.now.inner.marks.now }
-        ensures { EndBelow self.now.inner.marks.now self.now.inner.elapsed.now self.now.inner.sizes.now k result.number.0 result.octets.0 }
-    {
-        let r = self.inner;
-        for j in (self.span.first..k).rev() {
-            if r.marks[j] == 1 {
-                return End {
-                    number: Packets(j as u32 + 1),
-                    octets: Octets(u64::from(r.elapsed[j]) + u64::from(r.sizes[j])),
-                };
-            }
-        }
-        End {
-            number: Packets(0),
-            octets: Octets(0),
+// The end of the last packet heard below k. Nothing was heard before the place first.
+pub fn end_below(r: &Record, first: usize, k: usize) -> End
+    requires none_before { NoneBefore r.now.marks.now first }
+    requires k_in_bounds { k ≤ length r.now.marks.now }
+    ensures { EndBelow r.now.marks.now r.now.elapsed.now r.now.sizes.now k result.number.0 result.octets.0 }
+{
+    for j in (first..k).rev() {
+        if r.marks[j] == 1 {
+            return End {
+                number: Packets(j as u32 + 1),
+                octets: Octets(u64::from(r.elapsed[j]) + u64::from(r.sizes[j])),
+            };
         }
     }
+    End {
+        number: Packets(0),
+        octets: Octets(0),
+    }
+}
 
-    // Whether the next packet heard from k on, or else the closing, can come after packets that end before number i, at a octets.
-    pub fn next_fits(&self, k: usize, i: Packets, a: Octets) -> bool
-        requires { (k ≤ length self.now.inner.marks.now) × (i.0 ≤ k) }
-        ensures { result ≡ next_fits (held self.now.inner) (length self.now.inner.marks.now - k) k i.0 a.0 }
-    {
-        let r = self.inner;
-        for j in k..self.span.end {
-            if r.marks[j] == 1 {
-                let e = Octets(u64::from(r.elapsed[j]));
-                let l = Octets(u64::from(r.sizes[j]));
-                return is_fit(i, a, Packets(j as u32), e, l);
-            }
+// Whether the next packet heard from k on, or else the closing, can come after packets that end before number i, at a octets. Nothing was
+// heard from the place end on.
+pub fn next_fits(r: &Record, end: usize, k: usize, i: Packets, a: Octets) -> bool
+    requires none_from { NoneFrom r.now.marks.now end }
+    requires k_in_bounds { (k ≤ length r.now.marks.now) × (i.0 ≤ k) }
+    ensures { result ≡ next_fits (held r.now) (length r.now.marks.now - k) k i.0 a.0 }
+{
+    for j in k..end {
+        if r.marks[j] == 1 {
+            let e = Octets(u64::from(r.elapsed[j]));
+            let l = Octets(u64::from(r.sizes[j]));
+            return is_fit(i, a, Packets(j as u32), e, l);
         }
-        may_end(r.head, i, a)
     }
+    may_end(r.head, i, a)
 }

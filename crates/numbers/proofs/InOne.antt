@@ -12,17 +12,17 @@ use Rattle.frame.specs.Answers.{Written}
 use Rattle.frame.specs.Counts.{any_above, sum_of, list_wrong}
 use Rattle.frame.specs.Layout.{filled}
 use Rattle.frame.specs.Paper.{CountPaper, written_paper}
-use Rattle.numbers.specs.Answers.{most_told}
+use Rattle.numbers.specs.Answers.{most_counted}
 
 abbrev pub Few : Written → Type 0
-Few w = (written_paper w).count ≤ most_told
+Few w = (written_paper w).count ≤ most_counted
 
 -- an answer with the same paper has as few
 pub as_few : (a r : Written) → written_paper r ≡ written_paper a → Few a → Few r
-as_few a r e h = subst (λ (p : CountPaper). p.count ≤ most_told) (sym e) h
+as_few a r e h = subst (λ (p : CountPaper). p.count ≤ most_counted) (sym e) h
 
 -- as many lengths as Packet Number can say
-pub lengths_few : (ls : List ℕ) (n e : ℕ) → list_wrong ls n e ≡ false → n ≤ 65535 → 19 + filled (length ls) ≤ most_told
+pub lengths_few : (ls : List ℕ) (n e : ℕ) → list_wrong ls n e ≡ false → n ≤ 65535 → 19 + filled (length ls) ≤ most_counted
 unfolding list_wrong
 lengths_few ls n e w h =
     let p = (or_false (not (eqb (length ls) n)) (any_above ls || not (eqb (sum_of ls) e)) w).0 in

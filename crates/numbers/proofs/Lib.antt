@@ -1,2 +1,4 @@
 pub mod InOne
+pub mod StoredInFront
 pub mod Told
+pub mod Widths

@@ -17,3 +17,7 @@ in_one p = with_value p.number (p.count + checks_value p.found p.worked)
 -- the largest value that is answered so: it has 56 bits above the number's eight
 abbrev pub most_told : ℕ
 most_told = 72057594037927935
+
+-- the largest count that is answered so: no frame has as many octets, or lengths
+abbrev pub most_counted : ℕ
+most_counted = 16777215

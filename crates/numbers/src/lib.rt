@@ -1,5 +1,5 @@
-// What the crates share that give C and Rust their numbers: an answer as its number, an answer with a value in one number, and numbers
-// put in front of a lent list.
+// What the crates share that give C and Rust their numbers: the widest number of 32 bits, an answer as its number, an answer with a
+// value in one number, and numbers put in front of a lent list.
 #![tactic(auto)]
 
 ghost use Rattle.std.specs.Prelude.{◌≡◌, ◌≤◌, length, ltb, Ok, Err};
@@ -10,6 +10,9 @@ ghost use Rattle.frame.specs.Paper.{written_paper};
 ghost use Rattle.numbers.specs.Answers.{in_one, number_told, most_told};
 
 use units::Refusal;
+
+// The largest number of 32 bits.
+pub const WIDEST: u64 = 4294967295;
 
 // The number of an answer: 0, or the refusal's.
 pub fn number_of(answer: Result<(), Refusal>) -> u8

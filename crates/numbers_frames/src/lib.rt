@@ -61,6 +61,7 @@ pub fn lengths_in_one(frame: &[u8], lengths: &mut [u16]) -> u64
 }
 
 // Writes a data PDU (Type 1).
+#[tactic(auto, using(numbers::proofs::InOne::as_few, crate::proofs::FramesCounted::few_data, crate::proofs::FramesCounted::wrote))]
 pub fn data_in_one(stamp: u32, number: u32, elapsed: u64, payload: &[u8], out: &mut [u8]) -> u64
     ensures { Writes
         (write_data stamp number elapsed (length payload.now) (length out.old))

@@ -68,5 +68,6 @@ module _ (b : Between) (input : List ℕ) (ended : Bool) (w : Went) (marks elaps
         adds = adds_then p.adds q;
         told = all_told;
         ready = p.ready;
+        unbegun = p.unbegun;
         used_in = p.used_in;
       }

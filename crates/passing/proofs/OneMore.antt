@@ -14,7 +14,7 @@ use Rattle.fields.proofs.Choosing.{past}
 use Rattle.lines.specs.declared.Text.{Text}
 use Rattle.lines.specs.Adding.{room, Adds}
 use Rattle.lines.proofs.Added.{adds_none, adds_then}
-use Rattle.std.specs.Prelude.{Err}
+use Rattle.std.specs.Prelude.{Err, is_some}
 use Rattle.items.specs.declared.NoItem.TheVariants.{Cut}
 use Rattle.items.specs.Items.{longest_item, item_of, size_of}
 use Rattle.items.proofs.Enough.{never_cut, size_there}
@@ -22,6 +22,7 @@ use Rattle.printout.specs.declared.Going.{Going}
 use Rattle.printout.specs.declared.Went.{Went}
 use Rattle.printout.specs.Printed.{Between, most_text, step_of, used_by}
 use Rattle.printout.specs.Stepping.{between_in, Ready, Steps}
+use Rattle.printout.proofs.Stepped.{begins_none}
 use Rattle.printout.proofs.WholeText.{takes_some}
 use Rattle.passing.specs.Passing.{goes_on, Told, Passed}
 use Rattle.passing.proofs.Telling.{told_nothing, told_then, told_item, told_over}
@@ -58,6 +59,7 @@ pub record Passing (b : Between) (input : List ℕ) (ended : Bool) (marks₀ ela
   pub adds : Adds text most text₀ to
   pub told : Told b input ended text stops (between_in g marks elapsed sizes) (drop (length input - left) input)
   pub ready : Ready g marks elapsed sizes
+  pub unbegun : is_some g.begun ≡ false → between_in g marks elapsed sizes ≡ b
   pub left_in : left ≤ length input
   pub marks_same : length marks ≡ length marks₀
   pub elapsed_same : length elapsed ≡ length elapsed₀
@@ -75,6 +77,7 @@ passing_start marks elapsed sizes input to ended g y =
       adds = adds_none to 0;
       told = rw (none_passed input) (told_nothing (between_in g marks elapsed sizes) input ended);
       ready = y;
+      unbegun = λ e. refl;
       left_in = omega arith;
       marks_same = refl;
       elapsed_same = refl;
@@ -88,7 +91,7 @@ pub passing_done : (b : Between) (input : List ℕ) (ended : Bool) (marks₀ ela
     × (goes_on (length input - (length input - left)) ended (room to) stops ≡ false)
 passing_done b input ended marks₀ elapsed₀ sizes₀ text₀ marks elapsed sizes to g left stops p off =
     let n : length input - (length input - left) ≡ left = omega (arith, p.left_in) in
-    (record { text = p.text; most = p.most; adds = p.adds; told = p.told; ready = p.ready; used_in = omega arith }, rw n off)
+    (record { text = p.text; most = p.most; adds = p.adds; told = p.told; ready = p.ready; unbegun = p.unbegun; used_in = omega arith }, rw n off)
 
 module _ (b : Between) (input : List ℕ) (ended : Bool) (marks₀ elapsed₀ sizes₀ : List ℕ) (text₀ : Text) (marks elapsed sizes : List ℕ) (to : Text) (g : Going) (left : ℕ) (stops : Bool)
     (p : Passing b input ended marks₀ elapsed₀ sizes₀ text₀ marks elapsed sizes to g left stops) (w : Went) (marks' elapsed' sizes' : List ℕ) (to' : Text) (rest : List ℕ)
@@ -127,6 +130,13 @@ module _ (b : Between) (input : List ℕ) (ended : Bool) (marks₀ elapsed₀ si
       go true e q = told_over _ _ q
       go false e q = rw (← behind e) q
 
+  -- an item that begins no sequence leaves all as it was
+  as_before : is_some w.going.begun ≡ false → between_in w.going marks' elapsed' sizes' ≡ b
+  as_before e =
+      let n : between_in w.going marks' elapsed' sizes' ≡ between_in g marks elapsed sizes =
+      t.next ∙ begins_none (between_in g marks elapsed sizes) rest (ap (λ (x : Between). x.begun) (sym t.next) ∙ e) in
+      n ∙ p.unbegun (ap (λ (x : Between). x.begun) (sym n) ∙ e)
+
   module _ (free : ℕ) (on : goes_on left ended free stops ≡ true) where
     known : (stops ≡ false) × (most_text ≤ free) × (1 ≤ left) × ((longest_item ≤ left) ⊎ (ended ≡ true))
     known = goes_on_means left ended free stops on
@@ -145,6 +155,7 @@ module _ (b : Between) (input : List ℕ) (ended : Bool) (marks₀ elapsed₀ si
           adds = adds_then p.adds t.adds;
           told = told_on;
           ready = t.ready;
+          unbegun = as_before;
           left_in = omega (arith, p.left_in);
           marks_same = m ∙ p.marks_same;
           elapsed_same = e ∙ p.elapsed_same;

@@ -1,6 +1,6 @@
 -- How each kind of item meets the promise of a step. Assumes nothing.
 use Rattle.std.proofs.Common.{◌≡◌, ℕ, ◌+◌, ◌-◌, ◌≤◌, Bool, true, false, not, List, length, take, drop, replicate, sym, refl, ap, ◌∙◌, subst, arith, length-drop, length-take-le}
-use lib.ListN.{length-replicate}
+use lib.ListN.{length-replicate, get_or-eq_default}
 use Rattle.units.specs.Limits.{last_stamp}
 use Rattle.fields.specs.Choice.{◌when◌otherwise◌}
 use Rattle.lines.specs.declared.Text.{Text}
@@ -10,7 +10,7 @@ use Rattle.items.specs.declared.Item.TheVariants.{Begins, Frame}
 use Rattle.items.specs.declared.NoItem.{NoItem}
 use Rattle.std.specs.Prelude.{Ok, Err, Some}
 use Rattle.items.specs.declared.Key.{Key}
-use Rattle.items.specs.Items.{item_of, size_of}
+use Rattle.items.specs.Items.{Found, item_of, size_of}
 use Rattle.reception.specs.declared.Head.{Head}
 use Rattle.reception.specs.Damage.{Matched}
 use Rattle.reception.specs.Hearing.{Kept, kept_in, damaged_kept, open_head, hear_frame}
@@ -19,7 +19,7 @@ use Rattle.reception.proofs.HearingUndamaged.{stays_undamaged}
 use Rattle.reception.proofs.OnePaper.{taken_known}
 use Rattle.hearing.specs.declared.contradicting.Span.{Span}
 use Rattle.hearing.specs.declared.following.Following.{Following}
-use Rattle.hearing.specs.Following.{Follows}
+use Rattle.hearing.specs.Following.{Cleared, Follows, ZerosOutside}
 use Rattle.hearing.proofs.EmptyRecord.{empty_undamaged, empty_before, empty_from}
 use Rattle.telling.specs.Account.{bad_line}
 use Rattle.printout.specs.declared.Going.{Going}
@@ -32,6 +32,19 @@ pub ready_lists : (g : Going) (marks elapsed sizes : List ℕ) → Ready g marks
 ready_lists g marks elapsed sizes r =
     let m = r.marks_long in
     record { room = omega (arith, m); elapseds = r.elapsed_long ∙ sym m; lengths = r.sizes_long ∙ sym m }
+
+-- a span that leaves no place out
+pub all_outside : (marks elapsed sizes : List ℕ) → Matched marks elapsed sizes → ZerosOutside (record { first = 0; end = length marks }) marks elapsed sizes
+all_outside marks elapsed sizes m =
+    record {
+      inside = omega arith;
+      marks_zero = beyond marks refl;
+      elapsed_zero = beyond elapsed m.elapseds;
+      sizes_zero = beyond sizes m.lengths;
+    }
+  where
+    beyond : (s : List ℕ) → length s ≡ length marks → Cleared (length marks) s 0 (length marks)
+    beyond s e = record { long = e; zeros = λ j q. get_or-eq_default s 0 (omega (arith, e, q)) }
 
 -- a key
 pub keyed : (b : Between) (k : Key) → k.stamp ≤ last_stamp → (h : Head) (span : Span) (place offset : ℕ) (marks elapsed sizes : List ℕ) (old new : Text)
@@ -50,10 +63,11 @@ keyed b k st h span place offset marks elapsed sizes old new p hh m e z se pl of
         marks_long = ap length m ∙ length-replicate {A = ℕ} places 0;
         elapsed_long = ap length e ∙ length-replicate {A = ℕ} places 0;
         sizes_long = ap length z ∙ length-replicate {A = ℕ} places 0;
-        undamaged = empty_undamaged k.bearer k.period k.stamp places st (omega arith) h marks elapsed sizes hh m e z;
-        before = empty_before k.bearer k.period k.stamp places st (omega arith) h marks elapsed sizes hh m e z span.first;
-        from_end = rw se (empty_from k.bearer k.period k.stamp places st (omega arith) h marks elapsed sizes hh m e z);
-        fresh = λ n. absurd cc;
+        heard = record {
+          undamaged = empty_undamaged k.bearer k.period k.stamp places st (omega arith) h marks elapsed sizes hh m e z;
+          before = empty_before k.bearer k.period k.stamp places st (omega arith) h marks elapsed sizes hh m e z span.first;
+          from_end = rw se (empty_from k.bearer k.period k.stamp places st (omega arith) h marks elapsed sizes hh m e z);
+        };
       };
     }
 
@@ -66,14 +80,14 @@ bad_stepped g marks elapsed sizes r old new y p e s u =
 
 -- a frame heard
 pub framed_step : (g : Going) (marks elapsed sizes body : List ℕ) (t : Following) (marks' elapsed' sizes' : List ℕ) (old new : Text) (place offset : ℕ)
-    → Ready g marks elapsed sizes
+    → Ready g marks elapsed sizes → damaged_kept (kept_in (begun_of g.begun).head marks elapsed sizes) ≡ false
     → Follows (hear_frame (kept_in (begun_of g.begun).head marks elapsed sizes) (begun_of g.begun).head.bearer (begun_of g.begun).head.period body) t marks' elapsed' sizes'
     → length marks' ≡ length marks → length elapsed' ≡ length elapsed → length sizes' ≡ length sizes
     → place ≡ counted (g.place + 1) → offset ≡ counted (g.offset + (4 + length body)) → Adds (answer_text place t.answer) 128 old new
     → Steps (frame_step (between_in g marks elapsed sizes) (4 + length body) (heard_in (between_in g marks elapsed sizes) body)) (4 + length body)
     (record { going = record { begun = Some (record { head = t.head; span = t.span }); place = place; offset = offset }; used = 4 + length body; stops = false })
     marks' elapsed' sizes' old new
-framed_step g marks elapsed sizes body t marks' elapsed' sizes' old new place offset y f ml el sl pl of p =
+framed_step g marks elapsed sizes body t marks' elapsed' sizes' old new place offset y u f ml el sl pl of p =
     record {
       adds = rw (pl, taken_known t.answer (hear_frame (kept_in (begun_of g.begun).head marks elapsed sizes) (begun_of g.begun).head.bearer (begun_of g.begun).head.period body).answer f.taken.says) at (adds_in most_text (omega arith) p);
       next = rw (f.taken.leaves, pl, of) refl;
@@ -83,11 +97,12 @@ framed_step g marks elapsed sizes body t marks' elapsed' sizes' old new place of
         marks_long = ml ∙ y.marks_long;
         elapsed_long = el ∙ y.elapsed_long;
         sizes_long = sl ∙ y.sizes_long;
-        undamaged = subst (λ (x : Kept). damaged_kept x ≡ false) (sym f.taken.leaves)
-            (stays_undamaged (kept_in (begun_of g.begun).head marks elapsed sizes) (begun_of g.begun).head.bearer (begun_of g.begun).head.period body (matched_lists marks elapsed sizes (ready_lists g marks elapsed sizes y)) y.undamaged).1;
-        before = f.before;
-        from_end = f.from_end;
-        fresh = λ n. absurd cc;
+        heard = record {
+          undamaged = subst (λ (x : Kept). damaged_kept x ≡ false) (sym f.taken.leaves)
+              (stays_undamaged (kept_in (begun_of g.begun).head marks elapsed sizes) (begun_of g.begun).head.bearer (begun_of g.begun).head.period body (matched_lists marks elapsed sizes (ready_lists g marks elapsed sizes y)) u).1;
+          before = f.before;
+          from_end = f.from_end;
+        };
       };
     }
 
@@ -130,6 +145,21 @@ module _ (b : Between) (input : List ℕ) where
       → Steps (bad_step b) 0 r marks elapsed sizes old new → Steps (step_of b input) (used_by b input) r marks elapsed sizes old new
   unfolding item_step
   steps_none x e p = rw e p
+
+-- a step that begins no sequence leaves all as it was
+pub begins_none : (b : Between) (input : List ℕ) → (step_of b input).next.begun ≡ false → (step_of b input).next ≡ b
+unfolding item_step
+begins_none b input = go (item_of input)
+  where
+    go : (i : Found) → (item_step b input i).next.begun ≡ false → (item_step b input i).next ≡ b
+    go (Ok (Begins k)) e = absurd cc
+    go (Ok (Frame n)) e = framed b.begun e
+      where
+        framed : (t : Bool) → (bad_step b when not t otherwise frame_step b (4 + n) (heard_in b (take n (drop 4 input)))).next.begun ≡ false
+            → (bad_step b when not t otherwise frame_step b (4 + n) (heard_in b (take n (drop 4 input)))).next ≡ b
+        framed true e = absurd cc
+        framed false e = refl
+    go (Err x) e = refl
 
 -- the body of a frame is what stands behind the item's four octets
 pub body_is : (n : ℕ) (input : List ℕ) → take (4 + n - 4) (drop 4 input) ≡ take n (drop 4 input)

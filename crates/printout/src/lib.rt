@@ -9,7 +9,7 @@ ghost use Rattle.printout.specs.Stepping.{between_in, Ready, Steps};
 
 use hearing::contradicting::Span;
 use hearing::following::{empty_span, hear_next};
-use hearing::taking::{clear_heard, open_head};
+use hearing::taking::{clear_heard, open_head, whole};
 use items::{Item, Key, next_item};
 use lines::Text;
 use reception::Head;
@@ -76,9 +76,11 @@ fn begin(
         result marks.new elapsed.new sizes.new text.old text.new }
 {
     account_before(g, marks, elapsed, sizes, text);
-    if let Some(b) = g.begun {
-        clear_heard(b.span, marks, elapsed, sizes);
-    }
+    let held = match g.begun {
+        Some(b) => b.span,
+        None => whole(marks.len()),
+    };
+    clear_heard(held, marks, elapsed, sizes);
     Went {
         going: Going {
             begun: Some(Begun {

@@ -8,7 +8,7 @@ mod text;
 ghost use Rattle.std.specs.Prelude.{◌<◌, ◌≤◌, length, IfOk, IfSome};
 
 use again::{list, write_again};
-use feeding::{move_down, read_on};
+use feeding::{large_buffer, move_down, read_on};
 use frame::Read;
 use lines::Text;
 use std::io;
@@ -136,5 +136,5 @@ impl Passing {
 }
 
 fn main(rt: HostRuntime) -> io::Result<()> {
-    Passing::new().run(&mut rt.stdin(), &rt, &mut [0; 65536])
+    Passing::new().run(&mut rt.stdin(), &rt, &mut large_buffer())
 }

@@ -5,7 +5,7 @@
 pub mod limits;
 mod refusals;
 
-pub use refusals::{Checks, Refusal};
+pub use refusals::{Checks, Refusal, tells_checks};
 
 // A count of data PDUs.
 #[derive(Clone, Copy, Debug, PartialEq, Eq)]

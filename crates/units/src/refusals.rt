@@ -1,7 +1,7 @@
 // The refusals: each row of the refusal table is a case, and a wrong check has both checks with it.
 ghost use Rattle.std.specs.Prelude.{◌≡◌};
 ghost use Rattle.units.specs.OneNumber.{refusal_in_one};
-ghost use Rattle.units.specs.Refusals.{found_of, number_of, told_checks, worked_of};
+ghost use Rattle.units.specs.Refusals.{found_of, number_of, refusals, tells_checks, told_checks, worked_of};
 
 // Both checks of a frame: the one that stands there, and the one that was worked out.
 #[derive(Clone, Copy, Debug, PartialEq, Eq)]
@@ -89,4 +89,45 @@ impl Refusal {
             None => number,
         }
     }
+}
+
+// Whether a refusal with this number tells of a check. Its number decides, not the checks: either of them may be 0.
+pub fn tells_checks(number: u8) -> bool
+    ensures { result ≡ tells_checks number }
+{
+    number == 4 || number == 7
+}
+
+// Every number, as specs/ lists them: a row that differs there, or is left out, is not proved.
+fn all_numbers() -> [u8; 22]
+    ensures { result ≡ refusals }
+{
+    let any = Checks {
+        found: 0,
+        worked_out: 0,
+    };
+    [
+        Refusal::TooShort.number(),
+        Refusal::TypeTwo.number(),
+        Refusal::TypeUnknown.number(),
+        Refusal::HeaderCheckWrong(any).number(),
+        Refusal::StampTooHigh.number(),
+        Refusal::SizeWrong.number(),
+        Refusal::PayloadCheckWrong(any).number(),
+        Refusal::CountsImpossible.number(),
+        Refusal::OtherSequence.number(),
+        Refusal::BeyondCapacity.number(),
+        Refusal::Contradiction.number(),
+        Refusal::NoRoom.number(),
+        Refusal::RecordDamaged.number(),
+        Refusal::CapacitiesDiffer.number(),
+        Refusal::OutOfTurn.number(),
+        Refusal::StampNotLater.number(),
+        Refusal::SequenceFull.number(),
+        Refusal::PeriodFull.number(),
+        Refusal::PayloadTooLong.number(),
+        Refusal::SenderDamaged.number(),
+        Refusal::LengthsWrong.number(),
+        Refusal::PeriodOver.number(),
+    ]
 }

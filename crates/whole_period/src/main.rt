@@ -47,7 +47,7 @@ fn sizes(s: &mut Driven<impl Print>) -> io::Result<()> {
     s.open("open 0", 0)?;
     s.size_of_data("data of 4095", &payload[..4095])?;
     s.size_of_data("data of 4096", &payload)?;
-    s.data_into::<13>("data abc into 13", b"abc")?;
+    s.data_into("data abc into 13", b"abc", &mut [0; 13])?;
     s.close("close")?;
     s.renew("new period")
 }

@@ -1,7 +1,4 @@
 // A sender that is driven: each call's answer is printed, and the sender goes on from the state that the call gave.
-ghost use Rattle.std.specs.Prelude.{◌≤◌, length};
-ghost use Rattle.frame.specs.Paper.{written_paper};
-
 use sender::{Called, Sender};
 use std::{fmt, io};
 use units::Refusal;
@@ -53,12 +50,9 @@ impl<P: Print> Driven<'_, P> {
         self.tell(name, t.answer.map(|()| "done"))
     }
 
-    #[tactic(auto, unfolding(frame::specs::Paper::written_paper))]
-    fn frame(&mut self, name: &str, d: Called<usize>, out: &[u8]) -> io::Result<()>
-        requires { (written_paper d.answer).count ≤ length out.now }
-    {
+    fn frame(&mut self, name: &str, d: Called<usize>, out: &[u8]) -> io::Result<()> {
         self.sender = d.sender;
-        self.tell(name, d.answer.map(|n| Hex(&out[..n])))
+        self.tell(name, d.answer.map(|n| Hex(&out[..n.min(out.len())])))
     }
 
     pub fn open(&mut self, name: &str, stamp: u32) -> io::Result<()> {
@@ -69,28 +63,22 @@ impl<P: Print> Driven<'_, P> {
         self.turn(name, sender::renewed(self.sender))
     }
 
-    // Data, into memory of so many octets.
-    #[tactic(auto, unfolding(frame::specs::Paper::written_paper, sender::specs::Calls::data_call))]
-    pub fn data_into<const N: usize>(&mut self, name: &str, payload: &[u8]) -> io::Result<()>
-        requires { N ≤ 64 }
-    {
-        let mut memory = [0u8; N];
-        let d = sender::sent(self.sender, payload, &mut memory);
-        self.frame(name, d, &memory)
+    // Data, into lent memory.
+    pub fn data_into(&mut self, name: &str, payload: &[u8], out: &mut [u8]) -> io::Result<()> {
+        let d = sender::sent(self.sender, payload, out);
+        self.frame(name, d, out)
     }
 
     pub fn data(&mut self, name: &str, payload: &[u8]) -> io::Result<()> {
-        self.data_into::<64>(name, payload)
+        self.data_into(name, payload, &mut [0; 64])
     }
 
-    #[tactic(auto, unfolding(frame::specs::Paper::written_paper, sender::specs::Calls::close_call))]
     pub fn close(&mut self, name: &str) -> io::Result<()> {
         let mut memory = [0u8; 18];
         let d = sender::closed(self.sender, &mut memory);
         self.frame(name, d, &memory)
     }
 
-    #[tactic(auto, unfolding(frame::specs::Paper::written_paper, sender::specs::Calls::close_with_call))]
     pub fn close_with(&mut self, name: &str, lengths: &[u16]) -> io::Result<()> {
         let mut memory = [0u8; 64];
         let d = sender::closed_with_lengths(self.sender, lengths, &mut memory);

@@ -1,7 +1,7 @@
 -- `account::run`: the first turn starts where the program's text does, and each goes on where the one before ended.
 use Rattle.std.proofs.Common.{refl, ◌∙◌, arith}
 use Rattle.account.proofs.Started.{started, starts}
-use Rattle.account.proofs.WholeRun.{none_so_far, one_turn_more, all_told, front_told}
+use Rattle.account.proofs.WholeRun.{none_so_far, one_turn_more, all_told, front_told, written, did_write}
 use Rattle.account.proofs.run.Goals as goal
 
 pub loop-init : goal.loop-init
@@ -28,6 +28,8 @@ loop-preserved g c =
     let i = c.loop.invariant in
     let t = c.turn-t.ensures in
     let k = c.turn-t.auto in
+    let w = c.write_all in
+    let r = c.ran_by.ensures in
     record {
       kept = record {
         turns = t.turns;
@@ -37,18 +39,21 @@ loop-preserved g c =
         input_same = k.input ∙ i.kept.input_same;
         out_same = k.out ∙ i.kept.out_same;
       };
-      so_far = one_turn_more _ _ _ _ _ _ _ _ _ _ t _ _ _ _ i.so_far c.in_ok-write_all.ensures.bytes c.if-t.false;
+      so_far = one_turn_more _ _ _ _ _ _ _ _ _ _ t _ _ _ _ i.so_far (written w.result (did_write w.result _ c.in_ok-ran.ran c.in_ok-ran.was r.whole r.front) w.ensures.bytes) c.if-t.false;
     }
 
 pub returns-then-t-clause-whole : goal.returns-then-t-clause-whole
 returns-then-t-clause-whole g c =
-    λ _. all_told _ _ _ _ _ _ _ _ _ _ c.turn-t.ensures _ _ _ _ c.loop.invariant.so_far c.in_ok-write_all.ensures.bytes c.if-t.true
+    λ all.
+    let m = c.ran_by.ensures.whole (c.in_ok-ran.was ∙ all) in
+    all_told _ _ _ _ _ _ _ _ _ _ c.turn-t.ensures _ _ _ _ c.loop.invariant.so_far (written c.write_all.result m.1 c.write_all.ensures.bytes) m.0
 
-pub returns-after-loop-clause-front : goal.returns-after-loop-clause-front
-returns-after-loop-clause-front g c = λ _. front_told _ _ _ _ _ _ c.loop.invariant.so_far
-
-pub returns-in-Failed-clause-front : goal.returns-in-Failed-clause-front
-returns-in-Failed-clause-front g c =
-    λ _.
+pub returns-then-t-clause-front : goal.returns-then-t-clause-front
+returns-then-t-clause-front g c =
+    λ f.
+    let m = c.ran_by.ensures.front (c.in_ok-ran.was ∙ f) in
     front_told _ _ _ _ _ _
-    (one_turn_more _ _ _ _ _ _ _ _ _ _ c.turn-t.ensures _ _ _ _ c.loop.invariant.so_far c.in_ok-write_all.ensures.bytes c.if-t.false)
+    (one_turn_more _ _ _ _ _ _ _ _ _ _ c.turn-t.ensures _ _ _ _ c.loop.invariant.so_far (written c.write_all.result m.1 c.write_all.ensures.bytes) m.0)
+
+pub returns-clause-front : goal.returns-clause-front
+returns-clause-front g c = λ f. front_told _ _ _ _ _ _ c.loop.invariant.so_far

@@ -17,6 +17,6 @@ returns c =
     rw (← c.read_frame.ensures) (
     elim c.match-read_frame.branch [
       | in-Data w ↦ rw w.in-Data.is (values_put _ _ _ _ _ _ refl (rw (w.values-is, w.from.ensures, w.from-in-Data.ensures) refl) p.says n p.leaves)
-      | in-Closing w ↦ rw w.in-Closing.is (values_put _ _ _ _ _ _ refl (w.values-is ∙ w.closing_values-values.ensures) p.says n p.leaves)
-      | in-ClosingWithLengths w ↦ rw w.in-ClosingWithLengths.is (values_put _ _ _ _ _ _ refl (w.values-is ∙ w.closing_values-values-in-ClosingWithLengths.ensures) p.says n p.leaves)
+      | in-Closing w ↦ rw w.in-Closing.is (values_put _ _ _ _ _ _ refl (rw (w.values-is, w.closing_values-values.ensures) refl) p.says n p.leaves)
+      | in-ClosingWithLengths w ↦ rw w.in-ClosingWithLengths.is (values_put _ _ _ _ _ _ refl (rw (w.values-is, w.closing_values-values-in-ClosingWithLengths.ensures) refl) p.says n p.leaves)
     ])

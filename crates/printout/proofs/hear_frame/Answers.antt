@@ -7,10 +7,12 @@ use Rattle.printout.proofs.hear_frame.Goals as goal
 pub hear_next-t-requires : goal.hear_next-t-requires
 hear_next-t-requires c =
     let y = c.requires.ready in
-    let s = c.requires.begun in
-    record { cases = ready_lists _ _ _ _ y; none_before = rw s at y.before; none_from = rw s at y.from_end; sizes_value = rw s at y.undamaged }
+    let h = rw c.requires.begun at y.heard in
+    record { cases = ready_lists _ _ _ _ y; none_before = h.before; none_from = h.from_end; sizes_value = h.undamaged }
 
 pub returns : goal.returns
 returns c =
+    let y = c.requires.ready in
+    let h = rw c.requires.begun at y.heard in
     let s : begun_of c.args.g.begun ≡ c.args.b = ap begun_of c.requires.begun in
-    framed_step c.args.g _ _ _ _ _ _ _ _ _ _ _ _ c.requires.ready (rw (← s) at c.hear_next-t.ensures) c.hear_next-t.auto.marks c.hear_next-t.auto.elapsed c.hear_next-t.auto.sizes refl refl c.put_answer.ensures
+    framed_step c.args.g _ _ _ _ _ _ _ _ _ _ _ _ y (rw (← s) at h.undamaged) (rw (← s) at c.hear_next-t.ensures) c.hear_next-t.auto.marks c.hear_next-t.auto.elapsed c.hear_next-t.auto.sizes refl refl c.put_answer.ensures

@@ -1,6 +1,6 @@
--- `hearing::looking::Heard::end_below` meets its contract. Assumes nothing.
+-- `hearing::looking::end_below` meets its contract. Assumes nothing.
 use Rattle.hearing.proofs.NeighboursFound.{down_none, down_found, down_on}
-use Rattle.hearing.proofs.looking.Heard.end_below.Goals as goal
+use Rattle.hearing.proofs.looking.end_below.Goals as goal
 
 pub returns-then-r-j-eq1 : goal.returns-then-r-j-eq1
 returns-then-r-j-eq1 c =

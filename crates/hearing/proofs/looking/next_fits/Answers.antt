@@ -1,6 +1,6 @@
--- `hearing::looking::Heard::next_fits` meets its contract. Assumes nothing.
+-- `hearing::looking::next_fits` meets its contract. Assumes nothing.
 use Rattle.hearing.proofs.NeighboursFound.{up_found, up_on, up_none}
-use Rattle.hearing.proofs.looking.Heard.next_fits.Goals as goal
+use Rattle.hearing.proofs.looking.next_fits.Goals as goal
 
 pub returns-then-r-j-eq1 : goal.returns-then-r-j-eq1
 returns-then-r-j-eq1 c =

@@ -1,0 +1,2 @@
+pub mod InPlace
+pub mod Values

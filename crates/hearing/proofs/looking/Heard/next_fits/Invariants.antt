@@ -1,7 +1,0 @@
--- `hearing::looking::Heard::next_fits` meets its contract. Assumes nothing.
-use Rattle.reception.specs.Lent.{held}
-use Rattle.hearing.proofs.NeighboursFound.{Up}
-use Rattle.hearing.proofs.looking.Heard.next_fits.Given as goal
-
-abbrev pub invariant-loop-j : goal.invariant-loop-j
-invariant-loop-j l = Up (held l.self.inner) l.self.span.end l.k l.i.0 l.a.0 l.j
