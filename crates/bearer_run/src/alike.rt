@@ -47,7 +47,7 @@ fn alike<T: PartialEq>(a: &T, b: &T) -> &'static str {
 }
 
 // The two senders, each advanced in its own way, and where the comparison is printed.
-#[derive(Drop)]
+#[derive(Clone, Copy)]
 pub struct Both<'a, P> {
     to: &'a P,
     pub by_value: Sender,
