@@ -8,15 +8,15 @@ use lib.ListN.{take}
 use Rattle.std.specs.Prelude.{Option}
 use Rattle.std.specs.declared.io.Error.{Error}
 use Rattle.printout.specs.Printed.{Between, text_from}
-use Rattle.printout.specs.Stepping.{between_in}
+use Rattle.printout.specs.Stepping.{between_in, Known}
 use Rattle.feeding.specs.declared.End.TheVariants.{Over, Failed}
 use Rattle.feeding.specs.Feeding.{is_over}
 use Rattle.passing.specs.Pieces.{InPieces, last, stopped, piece, owing}
 use Rattle.account.specs.declared.Done.{Done}
-use Rattle.account.specs.Turning.{Turned}
+use Rattle.account.specs.Turning.{TurnedWith}
 
-module _ (b : Between) (pending : List ℕ) (before after : Option (List ℕ)) (r : Done) (marks elapsed sizes input out : List ℕ)
-    (t : Turned b pending before after r marks elapsed sizes input out) where
+module _ {K : Known} (b : Between) (pending : List ℕ) (before after : Option (List ℕ)) (r : Done) (marks elapsed sizes input out : List ℕ)
+    (t : TurnedWith K b pending before after r marks elapsed sizes input out) where
   -- the last turn, where the input has ended
   pub last_turn : r.over ≡ true → r.end ≡ Over → InPieces b pending t.got (take r.at out)
   last_turn o e = last (rw (o, e) at t.told)

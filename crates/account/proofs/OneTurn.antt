@@ -11,12 +11,12 @@ use Rattle.lines.specs.declared.Text.{Text}
 use Rattle.lines.proofs.Putting.{puts_whole}
 use Rattle.printout.specs.declared.Went.{Went}
 use Rattle.printout.specs.Printed.{Between}
-use Rattle.printout.specs.Stepping.{between_in}
+use Rattle.printout.specs.Stepping.{between_in, Known}
 use Rattle.feeding.specs.declared.Fed.{Fed}
 use Rattle.feeding.specs.declared.End.TheVariants.{Over}
 use Rattle.feeding.specs.Feeding.{is_over, ReadOn}
-use Rattle.passing.specs.Passing.{Told, Passed}
-use Rattle.account.specs.Turning.{Turned}
+use Rattle.passing.specs.Passing.{Told, PassedWith}
+use Rattle.account.specs.Turning.{TurnedWith}
 
 -- what was read stands behind what was pending
 read_behind : (have : ℕ) (old : List ℕ) (f : Fed) (new : List ℕ) → ReadOn have old f new → take have old ++ drop have (take f.have new) ≡ take f.have new
@@ -30,8 +30,8 @@ behind_passed used n s u h =
     let l : length (take used s) ≡ used = length-take-le used s (omega (arith, u, h)) in
     ap (λ (k : ℕ). drop used (take k s)) (sym e) ∙ ap (drop used) (take-add used (n - used) s) ∙ drop_at (take used s) (take (n - used) (drop used s)) used l
 
-module _ (b : Between) (have : ℕ) (old : List ℕ) (f : Fed) (mid : List ℕ) (r : ReadOn have old f mid) (ended : Bool) (is : ended ≡ is_over f.end) (w : Went)
-    (marks elapsed sizes : List ℕ) (to₀ to : Text) (p : Passed b (take f.have mid) ended w marks elapsed sizes to₀ to) (start : to₀.at ≡ 0) where
+module _ {K : Known} (b : Between) (have : ℕ) (old : List ℕ) (f : Fed) (mid : List ℕ) (r : ReadOn have old f mid) (ended : Bool) (is : ended ≡ is_over f.end) (w : Went)
+    (marks elapsed sizes : List ℕ) (to₀ to : Text) (p : PassedWith K b (take f.have mid) ended w marks elapsed sizes to₀ to) (start : to₀.at ≡ 0) where
   mid_long : length (take f.have mid) ≡ f.have
   mid_long = length-take-le f.have mid r.behind.within
 
@@ -47,7 +47,7 @@ module _ (b : Between) (have : ℕ) (old : List ℕ) (f : Fed) (mid : List ℕ) 
     all_told = rw (← is, read_behind have old f mid r, moved, puts_whole (rw start at p.adds.puts), ← behind_passed w.used f.have mid passed_in r.behind.within) p.told
 
     pub turn_done : (out : List ℕ) → out ≡ to.out.now → (before after : Option (List ℕ)) → Consumes before after (drop have (take f.have mid)) → (f.end ≡ Over → IsAtEnd after)
-        → Turned b (take have old) before after
+        → TurnedWith K b (take have old) before after
         (record { going = w.going; have = f.have - w.used; at = to.at; over = w.stops; end = f.end }) marks elapsed sizes new out
     turn_done out back before after bytes at_end =
         let i = r.behind.within in
@@ -59,6 +59,5 @@ module _ (b : Between) (have : ℕ) (old : List ℕ) (f : Fed) (mid : List ℕ) 
           full = λ e. rw (read_behind have old f mid r, mid_long, same) (r.full e);
           over = λ e. rw (read_behind have old f mid r, mid_long, same) (r.over e);
           at_in = rw back to.inside;
-          unbegun = p.unbegun;
           turns = record { ready = p.ready; within = omega (arith, i, same) };
         }

@@ -7,18 +7,21 @@ use Rattle.std.specs.Prelude.{None}
 use Rattle.printout.specs.declared.Going.{Going}
 use Rattle.printout.specs.Printed.{nothing_yet}
 use Rattle.printout.specs.Stepping.{between_in, Ready}
+use Rattle.printout.proofs.StaysReady.{placed_ready}
 use Rattle.account.specs.Turning.{Turns}
 
 -- nothing was begun
 pub started : (marks elapsed sizes : List ℕ) (place offset : ℕ) → marks ≡ replicate 4096 0 → elapsed ≡ replicate 4096 0 → sizes ≡ replicate 4096 0
     → Ready (record { begun = None; place = place; offset = offset }) marks elapsed sizes
 started marks elapsed sizes place offset m e z =
-    record {
+    placed_ready _ marks elapsed sizes
+    (record {
       marks_long = ap length m ∙ length-replicate {A = ℕ} 4096 0;
       elapsed_long = ap length e ∙ length-replicate {A = ℕ} 4096 0;
       sizes_long = ap length z ∙ length-replicate {A = ℕ} 4096 0;
       heard = tt;
-    }
+    })
+    (λ n. (m, e, z))
 
 pub record Loop (marks₀ elapsed₀ sizes₀ input₀ out₀ marks elapsed sizes input out : List ℕ) (g : Going) (have : ℕ) : Type 0 where
   pub turns : Turns g marks elapsed sizes input have

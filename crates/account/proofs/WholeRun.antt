@@ -8,11 +8,11 @@ use Rattle.feeding.specs.declared.End.{End}
 use Rattle.feeding.specs.declared.End.TheVariants.{Full, Over, Failed}
 use Rattle.feeding.specs.Feeding.{is_over}
 use Rattle.printout.specs.Printed.{Between, nothing_yet, text_from, program_text}
-use Rattle.printout.specs.Stepping.{between_in}
+use Rattle.printout.specs.Stepping.{between_in, Known}
 use Rattle.account.specs.declared.Done.{Done}
 use Rattle.account.specs.declared.Ran.{Ran}
 use Rattle.account.specs.declared.Ran.TheVariants.{Whole, Front}
-use Rattle.account.specs.Turning.{Turned, TellsAll, TellsFront}
+use Rattle.account.specs.Turning.{TurnedWith, TellsAll, TellsFront}
 
 -- of xs these octets are still to be read, and what is printed is the text of all that was passed
 pub record Rest (xs printed : List ℕ) (b : Between) (pending : List ℕ) (left : Option (List ℕ)) : Type 0 where
@@ -52,8 +52,8 @@ over_is Full o = absurd (false≢true o)
 over_is Over o = refl
 over_is (Failed x) o = absurd (false≢true o)
 
-module _ (b : Between) (pending : List ℕ) (left left' : Option (List ℕ)) (r : Done) (marks elapsed sizes input out : List ℕ)
-    (t : Turned b pending left left' r marks elapsed sizes input out) (given before after after' : Option (List ℕ))
+module _ {K : Known} (b : Between) (pending : List ℕ) (left left' : Option (List ℕ)) (r : Done) (marks elapsed sizes input out : List ℕ)
+    (t : TurnedWith K b pending left left' r marks elapsed sizes input out) (given before after after' : Option (List ℕ))
     (s : SoFar given before b pending left after) (wrote : Appends after after' (take r.at out)) where
   abbrev next : Between
   next = between_in r.going marks elapsed sizes
@@ -89,11 +89,11 @@ module _ (b : Between) (pending : List ℕ) (left left' : Option (List ℕ)) (r 
       }
 
 -- the last turn
-pub all_told : (b : Between) (pending : List ℕ) (left left' : Option (List ℕ)) (r : Done) (marks elapsed sizes input out : List ℕ)
-    → Turned b pending left left' r marks elapsed sizes input out → (given before after after' : Option (List ℕ)) → SoFar given before b pending left after
+pub all_told : {K : Known} (b : Between) (pending : List ℕ) (left left' : Option (List ℕ)) (r : Done) (marks elapsed sizes input out : List ℕ)
+    → TurnedWith K b pending left left' r marks elapsed sizes input out → (given before after after' : Option (List ℕ)) → SoFar given before b pending left after
     → Appends after after' (take r.at out) → r.over ≡ true → TellsAll given before after'
-all_told b pending left left' r marks elapsed sizes input out t None before after after' s wrote o = tt
-all_told b pending left left' r marks elapsed sizes input out t (Some xs) before after after' s wrote o =
+all_told {K} b pending left left' r marks elapsed sizes input out t None before after after' s wrote o = tt
+all_told {K} b pending left left' r marks elapsed sizes input out t (Some xs) before after after' s wrote o =
     let text = rw o at (told b pending left left' r marks elapsed sizes input out t (Some xs) before after after' s wrote xs refl) in
     subst (Appends before after') (sym (text ∙ append-nil _)) (appended b pending left left' r marks elapsed sizes input out t (Some xs) before after after' s wrote)
 

@@ -5,9 +5,9 @@ mod failures;
 
 ghost use Rattle.std.specs.Prelude.{◌≡◌, true, false, length, take, IsOk};
 ghost use Rattle.std.specs.declared.io.Error.{Error};
-ghost use Rattle.printout.specs.Stepping.{between_in};
+ghost use Rattle.printout.specs.Stepping.{between_in, Placed, Ready, UnbegunKept};
 ghost use Rattle.account.specs.declared.Ran.TheVariants.{Whole, Front};
-ghost use Rattle.account.specs.Turning.{TellsAll, TellsFront, Turned, Turns};
+ghost use Rattle.account.specs.Turning.{TellsAll, TellsFront, TurnedWith, TurnsWith};
 
 use failures::{tell_read_failed, tell_usage, tell_write_failed};
 use feeding::{End, large_buffer, move_down, read_on};
@@ -44,9 +44,11 @@ fn turn<R: Read>(
     have: usize,
     out: &mut [u8],
 ) -> Done
-    requires { Turns g marks.old elapsed.old sizes.old input.old have }
-    ensures { Turned (between_in g marks.old elapsed.old sizes.old) (take have input.old)
+    requires { TurnsWith Placed g marks.old elapsed.old sizes.old input.old have }
+    ensures turned { TurnedWith Placed (between_in g marks.old elapsed.old sizes.old) (take have input.old)
         (R.remaining from.old) (R.remaining from.new) result marks.new elapsed.new sizes.new input.new out.new }
+    ensures unbegun { UnbegunKept (between_in g marks.old elapsed.old sizes.old) result.going marks.new elapsed.new sizes.new }
+    ensures ready { Ready g marks.old elapsed.old sizes.old → Ready result.going marks.new elapsed.new sizes.new }
 {
     let fed = read_on(from, clock, input, have);
     let n = fed.have;

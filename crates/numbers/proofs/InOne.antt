@@ -17,9 +17,9 @@ use Rattle.numbers.specs.Answers.{most_counted}
 abbrev pub Few : Written → Type 0
 Few w = (written_paper w).count ≤ most_counted
 
--- an answer with the same paper has as few
-pub as_few : (a r : Written) → written_paper r ≡ written_paper a → Few a → Few r
-as_few a r e h = subst (λ (p : CountPaper). p.count ≤ most_counted) (sym e) h
+-- an answer with the same paper has as few, whatever the limit
+pub as_few : {most : ℕ} (a r : Written) → written_paper r ≡ written_paper a → (written_paper a).count ≤ most → (written_paper r).count ≤ most
+as_few {most} a r e h = subst (λ (p : CountPaper). p.count ≤ most) (sym e) h
 
 -- as many lengths as Packet Number can say
 pub lengths_few : (ls : List ℕ) (n e : ℕ) → list_wrong ls n e ≡ false → n ≤ 65535 → 19 + filled (length ls) ≤ most_counted

@@ -15,9 +15,9 @@ use Rattle.lines.specs.Adding.{room, Adds}
 use Rattle.lines.proofs.Added.{adds_then}
 use Rattle.printout.specs.declared.Went.{Went}
 use Rattle.printout.specs.Printed.{Between, most_text, account_before}
-use Rattle.printout.specs.Stepping.{between_in}
+use Rattle.printout.specs.Stepping.{between_in, Known}
 use Rattle.items.specs.Items.{longest_item}
-use Rattle.passing.specs.Passing.{goes_on, Told, Passed, Waits}
+use Rattle.passing.specs.Passing.{goes_on, Told, PassedWith, Waits}
 use Rattle.passing.proofs.Telling.{told_then, told_last}
 
 -- where all is over nothing waits
@@ -45,8 +45,8 @@ read_waits input ended r new s n g = go (either (ltb (room new) most_text))
         record { why = λ e. inr (n, l) }
 
 -- the last account
-module _ (b : Between) (input : List ℕ) (ended : Bool) (w : Went) (marks elapsed sizes : List ℕ) (old mid new : Text)
-    (p : Passed b input ended w marks elapsed sizes old mid) (s : w.stops ≡ false) (n : ended ≡ true) (h : most_text ≤ room mid)
+module _ {K : Known} (b : Between) (input : List ℕ) (ended : Bool) (w : Went) (marks elapsed sizes : List ℕ) (old mid new : Text)
+    (p : PassedWith K b input ended w marks elapsed sizes old mid) (s : w.stops ≡ false) (n : ended ≡ true) (h : most_text ≤ room mid)
     (g : goes_on (length input - w.used) ended (room mid) w.stops ≡ false)
     (q : Adds (account_before (between_in w.going marks elapsed sizes)) most_text mid new) where
   none_left : drop w.used input ≡ []
@@ -60,7 +60,7 @@ module _ (b : Between) (input : List ℕ) (ended : Bool) (w : Went) (marks elaps
       let t : Told b input true p.text false (between_in w.going marks elapsed sizes) [] = rw (s, n, none_left) at p.told in
       rw (n, none_left) (told_then t (told_last (between_in w.going marks elapsed sizes)))
 
-  pub last_told : Passed b input ended (record w { stops = true }) marks elapsed sizes old new
+  pub last_told : PassedWith K b input ended (record w { stops = true }) marks elapsed sizes old new
   last_told =
       record {
         text = p.text ++ account_before (between_in w.going marks elapsed sizes);
@@ -68,6 +68,5 @@ module _ (b : Between) (input : List ℕ) (ended : Bool) (w : Went) (marks elaps
         adds = adds_then p.adds q;
         told = all_told;
         ready = p.ready;
-        unbegun = p.unbegun;
         used_in = p.used_in;
       }

@@ -14,17 +14,17 @@ use Rattle.fields.proofs.Choosing.{past}
 use Rattle.lines.specs.declared.Text.{Text}
 use Rattle.lines.specs.Adding.{room, Adds}
 use Rattle.lines.proofs.Added.{adds_none, adds_then}
-use Rattle.std.specs.Prelude.{Err, is_some}
+use Rattle.std.specs.Prelude.{Err}
 use Rattle.items.specs.declared.NoItem.TheVariants.{Cut}
 use Rattle.items.specs.Items.{longest_item, item_of, size_of}
 use Rattle.items.proofs.Enough.{never_cut, size_there}
 use Rattle.printout.specs.declared.Going.{Going}
 use Rattle.printout.specs.declared.Went.{Went}
 use Rattle.printout.specs.Printed.{Between, most_text, step_of, used_by}
-use Rattle.printout.specs.Stepping.{between_in, Ready, Steps}
+use Rattle.printout.specs.Stepping.{between_in, Known, Ready, StepsWith, UnbegunKept}
 use Rattle.printout.proofs.Stepped.{begins_none}
 use Rattle.printout.proofs.WholeText.{takes_some}
-use Rattle.passing.specs.Passing.{goes_on, Told, Passed}
+use Rattle.passing.specs.Passing.{goes_on, Told, PassedWith}
 use Rattle.passing.proofs.Telling.{told_nothing, told_then, told_item, told_over}
 
 -- what is known where the next item is passed
@@ -53,31 +53,33 @@ used_is : (b : Between) (input : List ℕ) → (step_of b input).stops ≡ false
 used_is b input s = rw s refl
 
 -- what is kept in the middle, with so many octets left
-pub record Passing (b : Between) (input : List ℕ) (ended : Bool) (marks₀ elapsed₀ sizes₀ : List ℕ) (text₀ : Text) (marks elapsed sizes : List ℕ) (to : Text) (g : Going) (left : ℕ) (stops : Bool) : Type 0 where
+pub record PassingWith (K : Known) (b : Between) (input : List ℕ) (ended : Bool) (marks₀ elapsed₀ sizes₀ : List ℕ) (text₀ : Text) (marks elapsed sizes : List ℕ) (to : Text) (g : Going) (left : ℕ) (stops : Bool) : Type 0 where
   pub text : List ℕ
   pub most : ℕ
   pub adds : Adds text most text₀ to
   pub told : Told b input ended text stops (between_in g marks elapsed sizes) (drop (length input - left) input)
-  pub ready : Ready g marks elapsed sizes
-  pub unbegun : is_some g.begun ≡ false → between_in g marks elapsed sizes ≡ b
+  pub ready : K g marks elapsed sizes
   pub left_in : left ≤ length input
   pub marks_same : length marks ≡ length marks₀
   pub elapsed_same : length elapsed ≡ length elapsed₀
   pub sizes_same : length sizes ≡ length sizes₀
 
+-- the same, and the record is ready
+abbrev pub Passing : Between → List ℕ → Bool → List ℕ → List ℕ → List ℕ → Text → List ℕ → List ℕ → List ℕ → Text → Going → ℕ → Bool → Type 0
+Passing = PassingWith Ready
+
 none_passed : (input : List ℕ) → drop (length input - length input) input ≡ input
 none_passed input = let z : length input - length input ≡ 0 = omega arith in rw z refl
 
-pub passing_start : (marks elapsed sizes input : List ℕ) (to : Text) (ended : Bool) (g : Going) → Ready g marks elapsed sizes
-    → Passing (between_in g marks elapsed sizes) input ended marks elapsed sizes to marks elapsed sizes to g (length input) false
-passing_start marks elapsed sizes input to ended g y =
+pub passing_start : {K : Known} (marks elapsed sizes input : List ℕ) (to : Text) (ended : Bool) (g : Going) → K g marks elapsed sizes
+    → PassingWith K (between_in g marks elapsed sizes) input ended marks elapsed sizes to marks elapsed sizes to g (length input) false
+passing_start {K} marks elapsed sizes input to ended g y =
     record {
       text = [];
       most = 0;
       adds = adds_none to 0;
       told = rw (none_passed input) (told_nothing (between_in g marks elapsed sizes) input ended);
       ready = y;
-      unbegun = λ e. refl;
       left_in = omega arith;
       marks_same = refl;
       elapsed_same = refl;
@@ -85,18 +87,18 @@ passing_start marks elapsed sizes input to ended g y =
     }
 
 -- what is kept where no item more is passed
-pub passing_done : (b : Between) (input : List ℕ) (ended : Bool) (marks₀ elapsed₀ sizes₀ : List ℕ) (text₀ : Text) (marks elapsed sizes : List ℕ) (to : Text) (g : Going) (left : ℕ) (stops : Bool)
-    → Passing b input ended marks₀ elapsed₀ sizes₀ text₀ marks elapsed sizes to g left stops → goes_on left ended (room to) stops ≡ false
-    → Passed b input ended (record { going = g; used = length input - left; stops = stops }) marks elapsed sizes text₀ to
+pub passing_done : {K : Known} (b : Between) (input : List ℕ) (ended : Bool) (marks₀ elapsed₀ sizes₀ : List ℕ) (text₀ : Text) (marks elapsed sizes : List ℕ) (to : Text) (g : Going) (left : ℕ) (stops : Bool)
+    → PassingWith K b input ended marks₀ elapsed₀ sizes₀ text₀ marks elapsed sizes to g left stops → goes_on left ended (room to) stops ≡ false
+    → PassedWith K b input ended (record { going = g; used = length input - left; stops = stops }) marks elapsed sizes text₀ to
     × (goes_on (length input - (length input - left)) ended (room to) stops ≡ false)
-passing_done b input ended marks₀ elapsed₀ sizes₀ text₀ marks elapsed sizes to g left stops p off =
+passing_done {K} b input ended marks₀ elapsed₀ sizes₀ text₀ marks elapsed sizes to g left stops p off =
     let n : length input - (length input - left) ≡ left = omega (arith, p.left_in) in
-    (record { text = p.text; most = p.most; adds = p.adds; told = p.told; ready = p.ready; unbegun = p.unbegun; used_in = omega arith }, rw n off)
+    (record { text = p.text; most = p.most; adds = p.adds; told = p.told; ready = p.ready; used_in = omega arith }, rw n off)
 
-module _ (b : Between) (input : List ℕ) (ended : Bool) (marks₀ elapsed₀ sizes₀ : List ℕ) (text₀ : Text) (marks elapsed sizes : List ℕ) (to : Text) (g : Going) (left : ℕ) (stops : Bool)
-    (p : Passing b input ended marks₀ elapsed₀ sizes₀ text₀ marks elapsed sizes to g left stops) (w : Went) (marks' elapsed' sizes' : List ℕ) (to' : Text) (rest : List ℕ)
+module _ {K : Known} (b : Between) (input : List ℕ) (ended : Bool) (marks₀ elapsed₀ sizes₀ : List ℕ) (text₀ : Text) (marks elapsed sizes : List ℕ) (to : Text) (g : Going) (left : ℕ) (stops : Bool)
+    (p : PassingWith K b input ended marks₀ elapsed₀ sizes₀ text₀ marks elapsed sizes to g left stops) (w : Went) (marks' elapsed' sizes' : List ℕ) (to' : Text) (rest : List ℕ)
     (is : rest ≡ drop (length input - left) input)
-    (t : Steps (step_of (between_in g marks elapsed sizes) rest) (used_by (between_in g marks elapsed sizes) rest) w marks' elapsed' sizes' to to') where
+    (t : StepsWith K (step_of (between_in g marks elapsed sizes) rest) (used_by (between_in g marks elapsed sizes) rest) w marks' elapsed' sizes' to to') where
   rest_long : length rest ≡ left
   rest_long = let d = length-drop (length input - left) input in let i = p.left_in in ap length is ∙ d ∙ omega (arith, i)
 
@@ -130,13 +132,6 @@ module _ (b : Between) (input : List ℕ) (ended : Bool) (marks₀ elapsed₀ si
       go true e q = told_over _ _ q
       go false e q = rw (← behind e) q
 
-  -- an item that begins no sequence leaves all as it was
-  as_before : is_some w.going.begun ≡ false → between_in w.going marks' elapsed' sizes' ≡ b
-  as_before e =
-      let n : between_in w.going marks' elapsed' sizes' ≡ between_in g marks elapsed sizes =
-      t.next ∙ begins_none (between_in g marks elapsed sizes) rest (ap (λ (x : Between). x.begun) (sym t.next) ∙ e) in
-      n ∙ p.unbegun (ap (λ (x : Between). x.begun) (sym n) ∙ e)
-
   module _ (free : ℕ) (on : goes_on left ended free stops ≡ true) where
     known : (stops ≡ false) × (most_text ≤ free) × (1 ≤ left) × ((longest_item ≤ left) ⊎ (ended ≡ true))
     known = goes_on_means left ended free stops on
@@ -147,7 +142,7 @@ module _ (b : Between) (input : List ℕ) (ended : Bool) (marks₀ elapsed₀ si
         told_then {c = between_in g marks elapsed sizes} {mid = rest} {s = p.text} (rw (is, ← k.0) p.told) (left_told k.2 k.3)
 
     pub passing_on : length marks' ≡ length marks → length elapsed' ≡ length elapsed → length sizes' ≡ length sizes
-        → Passing b input ended marks₀ elapsed₀ sizes₀ text₀ marks' elapsed' sizes' to' w.going (left - w.used) w.stops
+        → PassingWith K b input ended marks₀ elapsed₀ sizes₀ text₀ marks' elapsed' sizes' to' w.going (left - w.used) w.stops
     passing_on m e s =
         record {
           text = p.text ++ (step_of (between_in g marks elapsed sizes) rest).text;
@@ -155,7 +150,6 @@ module _ (b : Between) (input : List ℕ) (ended : Bool) (marks₀ elapsed₀ si
           adds = adds_then p.adds t.adds;
           told = told_on;
           ready = t.ready;
-          unbegun = as_before;
           left_in = omega (arith, p.left_in);
           marks_same = m ∙ p.marks_same;
           elapsed_same = e ∙ p.elapsed_same;
@@ -172,3 +166,17 @@ module _ (b : Between) (input : List ℕ) (ended : Bool) (marks₀ elapsed₀ si
             let u : w.used ≡ size_of (item_of rest) = t.used ∙ used_is (between_in g marks elapsed sizes) rest (sym t.stops ∙ e) in
             let l = used_less in
             omega (arith, n, u, l)
+
+-- nothing was passed yet
+pub unbegun_start : (g : Going) (marks elapsed sizes : List ℕ) → UnbegunKept (between_in g marks elapsed sizes) g marks elapsed sizes
+unbegun_start g marks elapsed sizes e = refl
+
+-- an item that begins no sequence leaves all as it was
+pub unbegun_on : {K : Known} (b : Between) (g : Going) (marks elapsed sizes rest : List ℕ) (w : Went) (marks' elapsed' sizes' : List ℕ) (to to' : Text)
+    → UnbegunKept b g marks elapsed sizes
+    → StepsWith K (step_of (between_in g marks elapsed sizes) rest) (used_by (between_in g marks elapsed sizes) rest) w marks' elapsed' sizes' to to'
+    → UnbegunKept b w.going marks' elapsed' sizes'
+unbegun_on {K} b g marks elapsed sizes rest w marks' elapsed' sizes' to to' kept t e =
+    let n : between_in w.going marks' elapsed' sizes' ≡ between_in g marks elapsed sizes =
+    t.next ∙ begins_none (between_in g marks elapsed sizes) rest (ap (λ (x : Between). x.begun) (sym t.next) ∙ e) in
+    n ∙ kept (ap (λ (x : Between). x.begun) (sym n) ∙ e)

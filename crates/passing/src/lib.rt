@@ -3,8 +3,8 @@
 
 ghost use Rattle.std.specs.Prelude.{◌≡◌, false, ◌-◌, length};
 ghost use Rattle.lines.specs.Adding.{room};
-ghost use Rattle.printout.specs.Stepping.{between_in, Ready};
-ghost use Rattle.passing.specs.Passing.{goes_on, Passed, Waits};
+ghost use Rattle.printout.specs.Stepping.{between_in, Placed, Ready, UnbegunKept};
+ghost use Rattle.passing.specs.Passing.{goes_on, PassedWith, Waits};
 
 use items::LONGEST_ITEM;
 use lines::Text;
@@ -40,9 +40,10 @@ fn pass_items(
     ended: bool,
     text: &mut Text,
 ) -> Went
-    requires { Ready g marks.old elapsed.old sizes.old }
-    ensures passed { Passed (between_in g marks.old elapsed.old sizes.old) input.now ended
+    requires { Placed g marks.old elapsed.old sizes.old }
+    ensures passed { PassedWith Placed (between_in g marks.old elapsed.old sizes.old) input.now ended
         result marks.new elapsed.new sizes.new text.old text.new }
+    ensures unbegun { UnbegunKept (between_in g marks.old elapsed.old sizes.old) result.going marks.new elapsed.new sizes.new }
     ensures stops_after { goes_on (length input.now - result.used) ended (room text.new) result.stops ≡ false }
 {
     let mut going = g;
@@ -72,9 +73,11 @@ pub fn pass(
     ended: bool,
     text: &mut Text,
 ) -> Went
-    requires { Ready g marks.old elapsed.old sizes.old }
-    ensures passed { Passed (between_in g marks.old elapsed.old sizes.old) input.now ended
+    requires { Placed g marks.old elapsed.old sizes.old }
+    ensures passed { PassedWith Placed (between_in g marks.old elapsed.old sizes.old) input.now ended
         result marks.new elapsed.new sizes.new text.old text.new }
+    ensures unbegun { UnbegunKept (between_in g marks.old elapsed.old sizes.old) result.going marks.new elapsed.new sizes.new }
+    ensures ready { Ready g marks.old elapsed.old sizes.old → Ready result.going marks.new elapsed.new sizes.new }
     ensures waits { Waits input.now ended result text.new }
 {
     let w = pass_items(g, marks, elapsed, sizes, input, ended, text);

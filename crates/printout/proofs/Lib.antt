@@ -1,4 +1,5 @@
 pub mod ChecksPrinted
+pub mod StaysReady
 pub mod Stepped
 pub mod WholeExample
 pub mod WholeText

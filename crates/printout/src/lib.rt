@@ -5,7 +5,7 @@ ghost use Rattle.std.specs.Prelude.{◌≡◌, ◌+◌, ◌≤◌, true, length}
 ghost use Rattle.lines.specs.Adding.{Adds};
 ghost use Rattle.telling.specs.Account.{bad_line};
 ghost use Rattle.printout.specs.Printed.{account_before, answer_text, key_step, frame_step, heard_in, most_text, step_of, used_by};
-ghost use Rattle.printout.specs.Stepping.{between_in, Ready, Steps};
+ghost use Rattle.printout.specs.Stepping.{between_in, Placed, Ready, Steps, StepsWith};
 
 use hearing::contradicting::Span;
 use hearing::following::{empty_span, hear_next};
@@ -45,7 +45,7 @@ pub struct Went {
 
 // The account of the record, where one was begun.
 pub fn account_before(g: Going, marks: &[u8], elapsed: &[u32], sizes: &[u16], text: &mut Text)
-    requires ready { Ready g marks.now elapsed.now sizes.now }
+    requires placed { Placed g marks.now elapsed.now sizes.now }
     requires most_text_in_bounds { text.old.at + most_text ≤ length text.old.out.now }
     ensures { Adds (account_before (between_in g marks.now elapsed.now sizes.now)) most_text text.old text.new }
 {
@@ -69,7 +69,7 @@ fn begin(
     k: Key,
     text: &mut Text,
 ) -> Went
-    requires ready { Ready g marks.old elapsed.old sizes.old }
+    requires placed { Placed g marks.old elapsed.old sizes.old }
     requires stamp_bound { k.stamp ≤ 59999 }
     requires most_text_in_bounds { text.old.at + most_text ≤ length text.old.out.now }
     ensures { Steps (key_step (between_in g marks.old elapsed.old sizes.old) k) 14
@@ -129,7 +129,7 @@ fn hear_frame(
     body: &[u8],
     text: &mut Text,
 ) -> Went
-    requires ready { Ready g marks.old elapsed.old sizes.old }
+    requires placed { Placed g marks.old elapsed.old sizes.old }
     requires most_text_in_bounds { (text.old.at + most_text ≤ length text.old.out.now) × (length body.now ≤ 8192) }
     requires begun { g.begun ≡ Some b }
     ensures { Steps
@@ -166,12 +166,13 @@ pub fn step(
     input: &[u8],
     text: &mut Text,
 ) -> Went
-    requires ready { Ready g marks.old elapsed.old sizes.old }
+    requires placed { Placed g marks.old elapsed.old sizes.old }
     requires most_text_in_bounds { text.old.at + most_text ≤ length text.old.out.now }
-    ensures { Steps
+    ensures steps { StepsWith Placed
         (step_of (between_in g marks.old elapsed.old sizes.old) input.now)
         (used_by (between_in g marks.old elapsed.old sizes.old) input.now)
         result marks.new elapsed.new sizes.new text.old text.new }
+    ensures ready { Ready g marks.old elapsed.old sizes.old → Ready result.going marks.new elapsed.new sizes.new }
 {
     match next_item(input) {
         Ok(Item::Begins(k)) => begin(g, marks, elapsed, sizes, k, text),

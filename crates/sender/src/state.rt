@@ -31,7 +31,7 @@ fn some_of(n: Packets, e: Octets) -> bool
 }
 
 impl Sender {
-    pub(crate) fn is_open(self) -> bool
+    pub fn is_open(self) -> bool
         ensures { result ≡ is_open self.phase }
     {
         match self.phase {
@@ -40,7 +40,7 @@ impl Sender {
         }
     }
 
-    pub(crate) fn is_not_later(self, stamp: u32) -> bool
+    pub fn is_not_later(self, stamp: u32) -> bool
         ensures { result ≡ not_later self.phase self stamp }
     {
         match self.phase {
@@ -50,7 +50,7 @@ impl Sender {
     }
 
     // What the sender's closing PDU says.
-    pub(crate) fn closing(self) -> ClosingPdu
+    pub fn closing(self) -> ClosingPdu
         ensures { result ≡ closing_by self }
     {
         ClosingPdu {
@@ -77,7 +77,7 @@ impl Sender {
     }
 
     #[tactic(auto, unfolding(crate::specs::State::damaged))]
-    pub(crate) fn is_damaged(self) -> bool
+    pub fn is_damaged(self) -> bool
         ensures { result ≡ damaged self }
     {
         LAST_STAMP < self.stamp as u64
@@ -88,7 +88,7 @@ impl Sender {
     }
 
     // The answer of a refused call, which leaves the sender as it was.
-    pub(crate) fn refused<T>(self, r: Refusal) -> Called<T>
+    pub fn refused<T>(self, r: Refusal) -> Called<T>
         ensures { result ≡ refused_call self r }
     {
         Called {
@@ -98,7 +98,7 @@ impl Sender {
     }
 
     // Within a sequence of a stamp.
-    pub(crate) fn begun(self, stamp: u32) -> Called<()>
+    pub fn begun(self, stamp: u32) -> Called<()>
         ensures { result ≡ begins self stamp }
     {
         Called {
@@ -112,7 +112,7 @@ impl Sender {
     }
 
     // One packet more of a payload of l octets.
-    pub(crate) fn with_packet(self, l: u64) -> Sender
+    pub fn with_packet(self, l: u64) -> Sender
         requires { (self.number.0 < 65536) × (self.elapsed.0 < 2 ^ 40) × (self.packets.0 < 2 ^ 24) × (self.octets.0 < 2 ^ 40) × (l < 4096) }
         ensures { result ≡ advanced self l }
     {
@@ -127,7 +127,7 @@ impl Sender {
     }
 
     // Between two sequences.
-    pub(crate) fn at_rest(self) -> Sender
+    pub fn at_rest(self) -> Sender
         ensures { result ≡ closed_sender self }
     {
         Sender {

@@ -1,6 +1,8 @@
 // Drives a sender through whole periods of several sequences, and prints each frame and refusal.
 #![tactic(auto)]
 
+#[cfg(test)]
+mod methods;
 mod told;
 
 use sender::{Phase, Sender};

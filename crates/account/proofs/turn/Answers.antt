@@ -6,6 +6,11 @@ use Rattle.account.proofs.turn.Goals as goal
 pub returns : goal.returns
 returns g c =
     let f = c.read_on-fed.ensures in
-    let p = c.pass-w.ensures.passed in
+    let w = c.pass-w.ensures in
+    let p = w.passed in
     let same = sym p.adds.same in
-    turn_done _ _ _ _ _ f.read_on _ c.is_over.ensures _ _ _ _ _ _ p refl _ c.move_down.auto.input c.move_down.ensures _ (search (rules, same)) _ _ f.bytes f.end
+    record {
+      turned = turn_done _ _ _ _ _ f.read_on _ c.is_over.ensures _ _ _ _ _ _ p refl _ c.move_down.auto.input c.move_down.ensures _ (search (rules, same)) _ _ f.bytes f.end;
+      unbegun = w.unbegun;
+      ready = w.ready;
+    }
